@@ -1,0 +1,12 @@
+// Runs the published vectors and writes a line for each: its name and the result in hex. The file
+// `stdout` beside `src` has the same lines from other implementations (tools/expected_vectors.py).
+mod cipher;
+mod fast_pair;
+mod hash;
+mod hex;
+
+fn main() {
+    hash::run();
+    cipher::run();
+    fast_pair::run();
+}

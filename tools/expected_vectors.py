@@ -1,0 +1,160 @@
+#!/usr/bin/env python3
+"""What the program `vectors` must print, computed by other implementations.
+
+SHA-256 comes from Python's hashlib and AES-128 from the command `openssl`. A result that a
+document publishes stands here too, and must equal what was computed. None of this reads our code.
+
+  expected_vectors.py          write crates/vectors/stdout
+  expected_vectors.py --check  exit 1 unless crates/vectors/stdout is what this computes
+"""
+import hashlib
+import pathlib
+import subprocess
+import sys
+
+STORED = pathlib.Path(__file__).resolve().parent.parent / "crates" / "vectors" / "stdout"
+
+# FIPS 197, appendix A.1: w0 to w43, as printed.
+A1_WORDS = """
+2b7e1516 28aed2a6 abf71588 09cf4f3c
+a0fafe17 88542cb1 23a33939 2a6c7605
+f2c295f2 7a96b943 5935807a 7359f67f
+3d80477d 4716fe3e 1e237e44 6d7a883b
+ef44a541 a8525b7f b671253b db0bad00
+d4d1c6f8 7c839d87 caf2b8bc 11f915bc
+6d88a37a 110b3efd dbf98641 ca0093fd
+4e54f70e 5f5fc9f3 84a64fb2 4ea6dc4f
+ead27321 b58dbad2 312bf560 7f8d292f
+ac7766f3 19fadc21 28d12941 575c006e
+d014f9a8 c9ee2589 e13f0cc8 b6630ca6
+"""
+
+B_KEY = "2b7e151628aed2a6abf7158809cf4f3c"
+
+
+def main():
+    text = "".join(f"{name} {value}\n" for name, value in hash_lines() + cipher_lines() + fast_pair_lines())
+    if sys.argv[1:] == ["--check"]:
+        check(text)
+    elif sys.argv[1:]:
+        sys.exit(__doc__)
+    else:
+        STORED.write_text(text)
+
+
+def check(text):
+    stored = STORED.read_text() if STORED.exists() else ""
+    if stored != text:
+        sys.exit(f"{STORED} is not what expected_vectors.py computes; run it to write the file anew")
+    print(f"{STORED.name}: {len(text.splitlines())} lines, as computed")
+
+
+# FIPS 180-4, its published results beside the computed ones, and lengths around the padding's boundaries.
+def hash_lines():
+    long = b"abcdbcdecdefdefgefghfghighijhijkijkljklmklmnlmnomnopnopq"
+    lines = [
+        ("FIPS 180-4 empty", sha256(b"", "e3b0c44298fc1c149afbf4c8996fb92427ae41e4649b934ca495991b7852b855")),
+        ("FIPS 180-4 abc", sha256(b"abc", "ba7816bf8f01cfea414140de5dae2223b00361a396177a9cb410ff61f20015ad")),
+        ("FIPS 180-4 448 bits", sha256(long, "248d6a61d20638b8e5c026930c3e6039a33ce45964ff2167f6ecedd419db06c1")),
+        ("FIPS 180-4 a million a", sha256(b"a" * 1000000, "cdc76e5c9914fb9281a1c7e284d73e67f1809a48a497200e046d39ccc7112cd0")),
+    ]
+    pattern = bytes((7 * i + 3) % 256 for i in range(4000))
+    return lines + [(f"SHA-256 of {n} bytes", sha256(pattern[:n])) for n in (55, 56, 63, 64, 65, 119, 120, 4000)]
+
+
+# FIPS 197, appendices A.1, B and C.1.
+def cipher_lines():
+    return (
+        [(f"FIPS 197 A.1 round key {i}", key) for i, key in enumerate(round_keys(B_KEY, A1_WORDS))]
+        + block_lines("FIPS 197 B", B_KEY, "3243f6a8885a308d313198a2e0370734", "3925841d02dc09fbdc118597196a0b32")
+        + block_lines(
+            "FIPS 197 C.1",
+            "000102030405060708090a0b0c0d0e0f",
+            "00112233445566778899aabbccddeeff",
+            "69c4e0d86a7b0430d8cdb78070b4c55a",
+        )
+    )
+
+
+# The test cases of the Fast Pair specification.
+def fast_pair_lines():
+    secret = bytes.fromhex("9dade4f86ac3488bbac2ac34b5fe68a0ee5a6706f543d9061ad57889498ae6ba")
+    hashed = sha256(secret, "b07f1f17c236cbd33523c515f350ae5759e247ac49513987a371ece35c331dcb")
+    return block_lines(
+        "Fast Pair AES",
+        "a0baf0bb951ff7b6cf5e3f4561c3321d",
+        "f30f4e786c59a7bbf3873b5a49ba97ea",
+        "ac9a16f0953a3f223dd10cf536e09e9c",
+    ) + [("Fast Pair SHA-256 of the ECDH secret", hashed), ("Fast Pair anti-spoofing AES key", hashed[:32])]
+
+
+# A published block, both ways.
+def block_lines(name, key, plain, cipher):
+    return [
+        (f"{name} encrypt", published(openssl_aes("-e", key, plain), cipher)),
+        (f"{name} decrypt", published(openssl_aes("-d", key, cipher), plain)),
+    ]
+
+
+def sha256(message, document=None):
+    return published(hashlib.sha256(message).hexdigest(), document)
+
+
+# What was computed, once it is known to be what the document prints, if it prints one.
+def published(computed, document):
+    if document not in (None, computed):
+        sys.exit(f"computed {computed}, published {document}")
+    return computed
+
+
+def openssl_aes(way, key, block):
+    command = ["openssl", "enc", way, "-aes-128-ecb", "-nopad", "-K", key]
+    return subprocess.run(command, input=bytes.fromhex(block), capture_output=True, check=True).stdout.hex()
+
+
+# The round keys as published, once they are known to be what the key expands to.
+def round_keys(key, words):
+    rows = ["".join(line.split()) for line in words.split("\n") if line]
+    for row, computed in zip(rows, expand(bytes.fromhex(key)), strict=True):
+        published(computed, row)
+    return rows
+
+
+# FIPS 197, section 5.2, at 128 bits: a round key from the one before.
+def expand(key):
+    keys, constant = [key], 1
+    for _ in range(10):
+        before = keys[-1]
+        word = bytes(sbox(b) for b in before[13:] + before[12:13])
+        word = bytes([word[0] ^ constant]) + word[1:]
+        after = b""
+        for i in range(0, 16, 4):
+            word = bytes(a ^ b for a, b in zip(before[i:i + 4], word))
+            after += word
+        keys.append(after)
+        constant = times(2, constant)
+    return [k.hex() for k in keys]
+
+
+# FIPS 197, section 5.1.1: the inverse in the field, then the affine map; no table.
+def sbox(byte):
+    inverse = next((x for x in range(256) if times(byte, x) == 1), 0)
+    return 0x63 ^ inverse ^ turned(inverse, 1) ^ turned(inverse, 2) ^ turned(inverse, 3) ^ turned(inverse, 4)
+
+
+def turned(byte, n):
+    return (byte << n | byte >> 8 - n) & 0xFF
+
+
+# The product in FIPS 197's field, section 4.2.
+def times(a, b):
+    product = 0
+    while b:
+        product ^= a if b & 1 else 0
+        a = a << 1 ^ (0x11B if a & 0x80 else 0)
+        b >>= 1
+    return product
+
+
+if __name__ == "__main__":
+    main()
