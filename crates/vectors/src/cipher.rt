@@ -30,123 +30,21 @@ fn round_key(name: &[u8], round: usize) {
 
 // The key of appendices A.1 and B.
 fn b_key() -> [u8; 16] {
-    [
-        0x2b,
-        0x7e,
-        0x15,
-        0x16,
-        0x28,
-        0xae,
-        0xd2,
-        0xa6,
-        0xab,
-        0xf7,
-        0x15,
-        0x88,
-        0x09,
-        0xcf,
-        0x4f,
-        0x3c,
-    ]
+    *b"\x2b\x7e\x15\x16\x28\xae\xd2\xa6\xab\xf7\x15\x88\x09\xcf\x4f\x3c"
 }
 
 fn appendix_b() {
     let key = b_key();
-    let plain = [
-        0x32,
-        0x43,
-        0xf6,
-        0xa8,
-        0x88,
-        0x5a,
-        0x30,
-        0x8d,
-        0x31,
-        0x31,
-        0x98,
-        0xa2,
-        0xe0,
-        0x37,
-        0x07,
-        0x34,
-    ];
-    let cipher = [
-        0x39,
-        0x25,
-        0x84,
-        0x1d,
-        0x02,
-        0xdc,
-        0x09,
-        0xfb,
-        0xdc,
-        0x11,
-        0x85,
-        0x97,
-        0x19,
-        0x6a,
-        0x0b,
-        0x32,
-    ];
+    let plain = *b"\x32\x43\xf6\xa8\x88\x5a\x30\x8d\x31\x31\x98\xa2\xe0\x37\x07\x34";
+    let cipher = *b"\x39\x25\x84\x1d\x02\xdc\x09\xfb\xdc\x11\x85\x97\x19\x6a\x0b\x32";
     encrypted(b"FIPS 197 B encrypt", key, plain);
     decrypted(b"FIPS 197 B decrypt", key, cipher);
 }
 
 fn appendix_c1() {
-    let key = [
-        0x00,
-        0x01,
-        0x02,
-        0x03,
-        0x04,
-        0x05,
-        0x06,
-        0x07,
-        0x08,
-        0x09,
-        0x0a,
-        0x0b,
-        0x0c,
-        0x0d,
-        0x0e,
-        0x0f,
-    ];
-    let plain = [
-        0x00,
-        0x11,
-        0x22,
-        0x33,
-        0x44,
-        0x55,
-        0x66,
-        0x77,
-        0x88,
-        0x99,
-        0xaa,
-        0xbb,
-        0xcc,
-        0xdd,
-        0xee,
-        0xff,
-    ];
-    let cipher = [
-        0x69,
-        0xc4,
-        0xe0,
-        0xd8,
-        0x6a,
-        0x7b,
-        0x04,
-        0x30,
-        0xd8,
-        0xcd,
-        0xb7,
-        0x80,
-        0x70,
-        0xb4,
-        0xc5,
-        0x5a,
-    ];
+    let key = *b"\x00\x01\x02\x03\x04\x05\x06\x07\x08\x09\x0a\x0b\x0c\x0d\x0e\x0f";
+    let plain = *b"\x00\x11\x22\x33\x44\x55\x66\x77\x88\x99\xaa\xbb\xcc\xdd\xee\xff";
+    let cipher = *b"\x69\xc4\xe0\xd8\x6a\x7b\x04\x30\xd8\xcd\xb7\x80\x70\xb4\xc5\x5a";
     encrypted(b"FIPS 197 C.1 encrypt", key, plain);
     decrypted(b"FIPS 197 C.1 decrypt", key, cipher);
 }

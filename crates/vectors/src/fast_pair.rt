@@ -10,101 +10,25 @@ pub fn run() {
 
 // AES-128 of one block.
 fn one_block() {
-    let key = [
-        0xa0,
-        0xba,
-        0xf0,
-        0xbb,
-        0x95,
-        0x1f,
-        0xf7,
-        0xb6,
-        0xcf,
-        0x5e,
-        0x3f,
-        0x45,
-        0x61,
-        0xc3,
-        0x32,
-        0x1d,
-    ];
-    let plain = [
-        0xf3,
-        0x0f,
-        0x4e,
-        0x78,
-        0x6c,
-        0x59,
-        0xa7,
-        0xbb,
-        0xf3,
-        0x87,
-        0x3b,
-        0x5a,
-        0x49,
-        0xba,
-        0x97,
-        0xea,
-    ];
-    let cipher = [
-        0xac,
-        0x9a,
-        0x16,
-        0xf0,
-        0x95,
-        0x3a,
-        0x3f,
-        0x22,
-        0x3d,
-        0xd1,
-        0x0c,
-        0xf5,
-        0x36,
-        0xe0,
-        0x9e,
-        0x9c,
-    ];
+    let key = *b"\xa0\xba\xf0\xbb\x95\x1f\xf7\xb6\xcf\x5e\x3f\x45\x61\xc3\x32\x1d";
+    let plain = *b"\xf3\x0f\x4e\x78\x6c\x59\xa7\xbb\xf3\x87\x3b\x5a\x49\xba\x97\xea";
+    let cipher = *b"\xac\x9a\x16\xf0\x95\x3a\x3f\x22\x3d\xd1\x0c\xf5\x36\xe0\x9e\x9c";
     encrypted(b"Fast Pair AES encrypt", key, plain);
     decrypted(b"Fast Pair AES decrypt", key, cipher);
 }
 
 // The hash of an ECDH secret, and the key that is its first 16 bytes.
 fn anti_spoofing_key() {
-    let secret = [
-        0x9d,
-        0xad,
-        0xe4,
-        0xf8,
-        0x6a,
-        0xc3,
-        0x48,
-        0x8b,
-        0xba,
-        0xc2,
-        0xac,
-        0x34,
-        0xb5,
-        0xfe,
-        0x68,
-        0xa0,
-        0xee,
-        0x5a,
-        0x67,
-        0x06,
-        0xf5,
-        0x43,
-        0xd9,
-        0x06,
-        0x1a,
-        0xd5,
-        0x78,
-        0x89,
-        0x49,
-        0x8a,
-        0xe6,
-        0xba,
-    ];
+    let secret =
+        *b"\x9d\xad\xe4\xf8\x6a\xc3\x48\x8b\xba\xc2\xac\x34\xb5\xfe\x68\xa0\xee\x5a\x67\x06\xf5\x43\xd9\x06\x1a\xd5\x78\x89\x49\x8a\xe6\xba";
     let hash = sha256::digest(&secret);
     line(b"Fast Pair SHA-256 of the ECDH secret", &hash);
-    line(b"Fast Pair anti-spoofing AES key", &hash[..16]);
+    first_half(b"Fast Pair anti-spoofing AES key", &hash);
+}
+
+// One line: the first 16 bytes of a hash.
+fn first_half(name: &[u8], hash: &[u8]) {
+    if 16 <= hash.len() {
+        line(name, &hash[0..16]);
+    }
 }
