@@ -1,9 +1,11 @@
-// The functions that the benchmark calls from C: each is one call of the function that is measured.
+// The functions that bench/bench.c calls: each is one call of the function that is measured. The
+// caller owns all memory and lends as many bytes as the types say, so no output is too short; C
+// passes a slice as a pointer and a length, and an array as a pointer.
 ghost use mathlib.Core.Path.{_≡_};
 ghost use Rattle.sha256.specs.Hash.{sha256};
 ghost use Rattle.aes128.specs.Cipher.{cipher, invCipher};
 
-// The SHA-256 of msg into out.
+// Leaves the SHA-256 of msg in out.
 #[no_mangle]
 pub extern "C" fn bench_digest(msg: &[u8], out: &mut [u8; 32])
     ensures { λ _. ⌜ now (out .exit) ≡ sha256 (now (msg .entry)) ⌝ }
@@ -11,7 +13,7 @@ pub extern "C" fn bench_digest(msg: &[u8], out: &mut [u8; 32])
     *out = sha256::digest(msg);
 }
 
-// The AES-128 encryption of block with key, in place, with the key schedule.
+// Encrypts block in place, by AES-128 with its key schedule.
 #[no_mangle]
 pub extern "C" fn bench_encrypt(key: &[u8; 16], block: &mut [u8; 16])
     ensures { λ _. ⌜ now (block .exit) ≡ cipher (now (key .entry)) (now (block .entry)) ⌝ }
@@ -19,7 +21,7 @@ pub extern "C" fn bench_encrypt(key: &[u8; 16], block: &mut [u8; 16])
     *block = aes128::encrypt(*key, *block);
 }
 
-// The AES-128 decryption of block with key, in place, with the key schedule.
+// Decrypts block in place, by AES-128 with its key schedule.
 #[no_mangle]
 pub extern "C" fn bench_decrypt(key: &[u8; 16], block: &mut [u8; 16])
     ensures { λ _. ⌜ now (block .exit) ≡ invCipher (now (key .entry)) (now (block .entry)) ⌝ }
