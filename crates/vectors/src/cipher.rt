@@ -1,5 +1,6 @@
 // AES-128: FIPS 197, appendix A.1 (key expansion), B and C.1 (one block each).
 use crate::hex::line;
+ghost use Prim.Native.Nat.{_<_};
 
 pub fn run() {
     key_expansion();
@@ -23,9 +24,12 @@ fn key_expansion() {
 }
 
 // One line: a round key of A.1.
-fn round_key(name: &[u8], round: usize) {
-    let result = aes128::round_key(b_key(), round);
-    line(name, &result);
+fn round_key(name: &[u8], round: usize)
+    requires { ⌜ round < 11 ⌝ }
+{
+    let keys = aes128::key_expansion(b_key());
+    let key = keys[round];
+    block_line(name, &key);
 }
 
 // The key of appendices A.1 and B.
@@ -52,11 +56,16 @@ fn appendix_c1() {
 // One line: the block encrypted.
 pub fn encrypted(name: &[u8], key: [u8; 16], block: [u8; 16]) {
     let result = aes128::encrypt(key, block);
-    line(name, &result);
+    block_line(name, &result);
 }
 
 // One line: the block decrypted.
 pub fn decrypted(name: &[u8], key: [u8; 16], block: [u8; 16]) {
     let result = aes128::decrypt(key, block);
-    line(name, &result);
+    block_line(name, &result);
+}
+
+// One line: a key or a block.
+fn block_line(name: &[u8], bytes: &[u8; 16]) {
+    line(name, bytes);
 }
