@@ -1,1 +1,4 @@
+pub mod BigEndian
+pub mod Lists
+pub mod Loops
 pub mod Table

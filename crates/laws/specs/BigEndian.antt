@@ -1,0 +1,13 @@
+-- Numbers and their bytes, the most significant byte first.
+-- Assumes nothing.
+use mathlib.Core.List.{List, [], _∷_}
+use Prim.Native.Nat.{ℕ, zero, suc, _+_, _*_, _/_, _%_, _^_}
+
+-- the n lowest bytes of x
+abbrev pub bytes : ℕ → ℕ → List ℕ
+bytes zero x = []
+bytes (suc n) x = x / 2 ^ (n * 8) % 2 ^ 8 ∷ bytes n x
+
+-- the number that four bytes stand for
+abbrev pub number4 : ℕ → ℕ → ℕ → ℕ → ℕ
+number4 a b c d = a * 2 ^ 24 + b * 2 ^ 16 + c * 2 ^ 8 + d

@@ -1,0 +1,37 @@
+-- Each call gives the term of the definition.
+use borrow.Author.Needs.{needs}
+use Rattle.sha256.specs.Compression as spec
+use Rattle.sha256.proofs.compression.compress.Tie as tie
+use Rattle.sha256.proofs.compression.compress.Statement.{statement}
+
+returns : tie.Need-returns
+unfolding spec.compress spec.added
+returns c =
+    rw (
+      c .add8 .ensures,
+      c .before .add7 .ensures,
+      c .before .before .add6 .ensures,
+      c .before .before .before .add5 .ensures,
+      c .before .before .before .before .add4 .ensures,
+      c .before .before .before .before .before .add3 .ensures,
+      c .before .before .before .before .before .before .add2 .ensures,
+      c .before .before .before .before .before .before .before .add .ensures,
+      c .before .before .before .before .before .before .before .before .rounds .ensures,
+      c .before .before .before .before .before .before .before .before .before .schedule .ensures,
+    )
+
+pub compress-spec : {M : Type 1} → statement M
+compress-spec =
+    tie.close
+    (tie.spec
+    (λ c κs. search needs)
+    (λ c κs. search needs)
+    (λ c κs. search needs)
+    (λ c κs. search needs)
+    (λ c κs. search needs)
+    (λ c κs. search needs)
+    (λ c κs. search needs)
+    (λ c κs. search needs)
+    (λ c κs. search needs)
+    (λ c κs. search needs)
+    returns)

@@ -1,0 +1,5 @@
+pub mod Functions
+pub mod Constants
+pub mod Padding
+pub mod Compression
+pub mod Hash
