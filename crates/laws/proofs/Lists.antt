@@ -5,8 +5,9 @@ use mathlib.Core.Path.{_≡_, refl, ap, _∙_}
 use Prim.Native.Nat.{ℕ, zero, suc, _+_, _-_, _≤_, _<_}
 use native.Mathlib.Nat.{le-refl, sub-zero, zero-sub, suc-sub-suc, le-of-suc-le-suc, not-suc-le-zero}
 use native.Mathlib.Numerals.{add-one}
-use lib.ListN.{length, take, drop, set, getD, replicate, length-drop}
-use lib.Seq.{take-suc-set, take-all, paste, paste-suc}
+use native.Mathlib.Omega.{arith}
+use lib.ListN.{length, take, drop, set, getD, replicate, length-drop, length-take, drop-of-length-le}
+use lib.Seq.{take-at, drop-append-add, length-take-le, getD-take, take-suc, drop-cons, getD-drop, take-suc-set, take-all, paste, paste-suc}
 
 -- a turn of a loop that fills a list from the front
 pub take-more {ℓ} : {A : Type ℓ} (l : List A) (i : ℕ) (a : A) → i < length l → take (i + 1) (set l i a)
@@ -32,3 +33,46 @@ drop-replicate (suc k) (suc n) a = drop-replicate k n a ∙ rw suc-sub-suc
 -- a part that is lent from a place to the end
 pub take-rest {ℓ} : {A : Type ℓ} (k : ℕ) (l : List A) → take (length l - k) (drop k l) ≡ drop k l
 take-rest k l = take-all (length l - k) (drop k l) (simp length-drop (le-refl (length l - k)))
+
+-- one element more of what is left
+pub drop-more {ℓ} : {A : Type ℓ} (l : List A) (i : ℕ) (z : A) → i < length l → drop i l ≡ getD l i z ∷ drop
+    (i + 1) l
+drop-more l i z h = rw (add-one, drop-cons l i z h)
+
+-- a turn of a loop that copies s from at on into l
+pub copy-more {ℓ} : {A : Type ℓ} (l s : List A) (at i : ℕ) (z : A) → take i l ≡ take i (drop at s)
+    → i < length l
+    → at + i < length s → take (i + 1) (set l i (getD s (at + i) z)) ≡ take (i + 1) (drop at s)
+copy-more l s at i z e h k =
+    let inside : i < length (drop at s) = simp length-drop (omega arith) in
+    rw (take-more l i (getD s (at + i) z) h, e, add-one, take-suc (drop at s) i z inside, getD-drop at s i z)
+
+-- what is left of the first n elements
+pub drop-held {ℓ} : {A : Type ℓ} (l : List A) (n i : ℕ) (z : A) → i < n → n ≤ length l
+    → drop i (take n l) ≡ getD l i z ∷ drop (i + 1) (take n l)
+drop-held l n i z h k =
+    let inside : i < length (take n l) = rw (length-take-le n l k) h in
+    drop-more (take n l) i z inside ∙ rw (getD-take n l i z h)
+
+pub drop-taken {ℓ} : {A : Type ℓ} (l : List A) (n i : ℕ) → n ≤ i → drop i (take n l) ≡ []
+drop-taken l n i h =
+    let short : length (take n l) ≤ i = simp length-take (omega arith) in
+    drop-of-length-le (take n l) short
+
+-- a copy that begins where a known front ends
+pub paste-at {ℓ} : {A : Type ℓ} (a b s : List A) (at n : ℕ) → length a ≡ at → length s ≡ n
+    → paste (a ++ b) at s n ≡ a ++ s ++ drop n b
+paste-at a b s at n p q =
+    let all : take n s ≡ s = take-all n s (omega arith) in
+    let rest : drop (at + n) (a ++ b) ≡ drop n b = rw (← p) (drop-append-add a b n) in
+    rw (take-at a b at p, all, rest)
+
+-- four stores at the front
+pub front4 {ℓ} : {A : Type ℓ} (l : List A) (a b c d : A) → 4 ≤ length l
+    → set (set (set (set l 0 a) 1 b) 2 c) 3 d ≡ a ∷ b ∷ c ∷ d ∷ drop 4 l
+front4 [] a b c d h = absurd (not-suc-le-zero h)
+front4 (w ∷ []) a b c d h = absurd (not-suc-le-zero (le-of-suc-le-suc h))
+front4 (w ∷ x ∷ []) a b c d h = absurd (not-suc-le-zero (le-of-suc-le-suc (le-of-suc-le-suc h)))
+front4 (w ∷ x ∷ y ∷ []) a b c d h =
+    absurd (not-suc-le-zero (le-of-suc-le-suc (le-of-suc-le-suc (le-of-suc-le-suc h))))
+front4 (w ∷ x ∷ y ∷ z ∷ l) a b c d h = refl

@@ -8,6 +8,10 @@ abbrev pub bytes : ℕ → ℕ → List ℕ
 bytes zero x = []
 bytes (suc n) x = x / 2 ^ (n * 8) % 2 ^ 8 ∷ bytes n x
 
+-- the number that two bytes stand for
+abbrev pub number2 : ℕ → ℕ → ℕ
+number2 a b = a * 2 ^ 8 + b
+
 -- the number that four bytes stand for
 abbrev pub number4 : ℕ → ℕ → ℕ → ℕ → ℕ
 number4 a b c d = a * 2 ^ 24 + b * 2 ^ 16 + c * 2 ^ 8 + d

@@ -1,0 +1,60 @@
+-- After i turns the first i places hold the keys from the second on.
+use mathlib.Core.Path.{ap, _∙_, _≡_}
+use Prim.Native.Nat.{_≤_, _-_}
+use native.Mathlib.Omega.{arith}
+use lib.ListN.{length, drop, replicate}
+use lib.Seq.{paste}
+use borrow.Author.Needs.{needs}
+use Rattle.laws.proofs.Loops.{at-limit}
+use Rattle.account_keys.specs.Keys.{limit, zeroKey}
+use Rattle.account_keys.specs.declared.AccountKeys.{AccountKeys}
+use Rattle.account_keys.proofs.AccountKeys.without_oldest.Tie as tie
+use Rattle.account_keys.proofs.AccountKeys.without_oldest.Statement.{statement}
+use Rattle.account_keys.proofs.Laws.{room, shifted, shift-more}
+
+abbrev Inv-loop : tie.InvT-loop
+Inv-loop self rest₀ i₀ rest i =
+    (i ≤ limit - 1) × (rest .keys ≡ paste (replicate limit zeroKey) 0 (drop 1 (self .keys)) i)
+
+abbrev μ-loop : tie.MeasureT-loop
+μ-loop self rest₀ i₀ rest i = limit - 1 - i
+
+loop-holds : tie.Need-loop-holds Inv-loop μ-loop
+loop-holds c = (search needs, ap (λ (x : AccountKeys). x .keys) (c .none .ensures))
+
+loop-again : tie.Need-loop-again Inv-loop μ-loop
+loop-again c =
+    let h : length (c .before .before .before .before .args .t1 .keys) ≡ limit = room
+    (c .before .before .before .before .args .t1) (c .before .before .before .before .pre .0) in (
+      search needs,
+      shift-more (replicate limit zeroKey) (c .before .before .before .before .args .t1 .keys)
+          (c .before .before .loop .i) (c .before .before .loop .inv .1) (omega arith) (omega arith),
+    )
+
+returns : tie.Need-returns Inv-loop μ-loop
+returns c =
+    (λ i. record {
+      keys = at-limit (λ k. c .before .loop .rest .keys ≡ paste (replicate limit zeroKey) 0
+          (drop 1 (c .before .before .before .args .t1 .keys)) k) (c .before .loop .inv .0) (c .loop-test .left)
+          (c .before .loop .inv .1) i;
+      count = limit - 1;
+    }) ∙ shifted (c .before .before .before .args .t1)
+    (c .before .before .before .pre .0) (c .before .before .before .pre .1)
+
+pub without-oldest-spec : {M : Type 1} → statement M
+without-oldest-spec =
+    tie.close
+    (tie.spec
+    Inv-loop
+    μ-loop
+    (λ c κs. search needs)
+    loop-holds
+    (λ c. search needs)
+    (λ c. search needs)
+    (λ c. search needs)
+    (λ c. search needs)
+    (λ c. search needs)
+    (λ c. search needs)
+    (λ c. search needs)
+    loop-again
+    returns)

@@ -1,0 +1,77 @@
+-- Header and keys together are the text, and what follows stays.
+use mathlib.Core.Path.{refl}
+use native.Mathlib.Omega.{arith}
+use lib.ListN.{length-take, length-drop, length-set}
+use borrow.Author.Needs.{needs}
+use Rattle.account_keys.specs.Keys.{held}
+use Rattle.account_keys.proofs.AccountKeys.write.Tie as tie
+use Rattle.account_keys.proofs.AccountKeys.write.Statement.{statement}
+use Rattle.account_keys.proofs.Laws.{count-held}
+use Rattle.account_keys.proofs.StoredList.{no-room, has-room, lent-long}
+
+returns : tie.Need-returns
+returns c =
+    no-room (held (c .before .before .args .self)) (c .before .before .pre .sized)
+    ((c .before .before .args .self) .count) (count-held (c .before .before .args .self)
+    (c .before .before .pre .canonical)) (c .before .before .args .out .now) (c .if1 .taken)
+
+slice-write-out-2 : tie.Need-slice-write-out-2
+slice-write-out-2 c = simp length-set (omega (arith, c .before .before .pre .canonical .few, c .if1 .left))
+
+slice-write-out-3 : tie.Need-slice-write-out-3
+slice-write-out-3 c = simp length-set (omega (arith, c .before .before .pre .canonical .few, c .if1 .left))
+
+slice-write-out-4 : tie.Need-slice-write-out-4
+slice-write-out-4 c = simp length-set (omega (arith, c .before .before .pre .canonical .few, c .if1 .left))
+
+sub-write-keys : tie.Need-sub-write-keys
+sub-write-keys c = simp length-set (omega (arith, c .before .before .pre .canonical .few, c .if1 .left))
+
+part-write-keys-start : tie.Need-part-write-keys-start
+part-write-keys-start c = simp length-set (omega (arith, c .before .before .pre .canonical .few, c .if1 .left))
+
+write-keys-requires : tie.Need-write-keys-requires
+write-keys-requires c κs = (
+  c .before .before .before .pre,
+  simp (length-take, length-drop, length-set)
+      (omega (arith, c .before .before .before .pre .canonical .few, c .before .if1 .left)),
+)
+
+same-length : tie.Need-same-length
+same-length c =
+    lent-long (c .before .before .before .before .before .before .args .out .now) _
+    (c .before .before .write-keys .last .1 .0) _ _ _ _ refl (c .before .before .write-keys .kept .1 .0)
+
+returns-2 : tie.Need-returns-2
+returns-2 c =
+    has-room (held (c .before .before .before .before .before .before .args .self))
+    (c .before .before .before .before .before .before .pre .sized)
+    ((c .before .before .before .before .before .before .args .self) .count)
+    (count-held (c .before .before .before .before .before .before .args .self)
+    (c .before .before .before .before .before .before .pre .canonical))
+    (c .before .before .before .before .before .before .args .out .now)
+    (omega (arith, c .before .before .before .before .before .before .pre .canonical .few))
+    (c .before .before .before .before .if1 .left) _ _ refl (c .before .before .write-keys .ensures)
+
+pub write-spec : {M : Type 1} → statement M
+write-spec =
+    tie.close
+    (tie.spec
+    (λ c. search needs)
+    (λ c. search needs)
+    (λ c. search needs)
+    returns
+    (λ c. search needs)
+    (λ c. search needs)
+    (λ c. search needs)
+    slice-write-out-2
+    slice-write-out-3
+    (λ c. search needs)
+    slice-write-out-4
+    sub-write-keys
+    part-write-keys-start
+    (λ c. search needs)
+    write-keys-requires
+    (λ c. search needs)
+    same-length
+    returns-2)

@@ -1,0 +1,60 @@
+-- Document 01, "The device and its events": the owners' account keys.
+-- Assumes nothing.
+use mathlib.Core.Path.{_≡_}
+use mathlib.Core.Bool.{Bool, true, false, not}
+use mathlib.Core.List.{List, [], _∷_, _++_}
+use Prim.Native.Nat.{ℕ, _≤_, _<_}
+use lib.Dec.{leb, eqb}
+use lib.ListN.{length, take, drop, getD, replicate}
+use Rattle.laws.specs.Choice.{if_then_else_, _and_, _or_}
+use Rattle.laws.specs.Lists.{padded, All}
+use Rattle.basics.specs.Bytes.{same}
+use Rattle.account_keys.specs.declared.AccountKey.{AccountKey}
+use Rattle.account_keys.specs.declared.AccountKeys.{AccountKeys}
+
+-- "Account key list of at most 5 keys"
+abbrev pub limit : ℕ
+limit = 5
+
+abbrev pub zeroKey : AccountKey
+zeroKey = record { bytes = replicate 16 0 }
+
+-- the keys of the list, "oldest stored first"
+abbrev pub held : AccountKeys → List AccountKey
+held ks = take (ks .count) (ks .keys)
+
+-- the value that holds a list of keys: its unused places are zero
+abbrev pub kept : List AccountKey → AccountKeys
+kept l = record { keys = padded limit zeroKey l; count = length l }
+
+abbrev pub member : List AccountKey → AccountKey → Bool
+member [] k = false
+member (x ∷ xs) k = same (x .bytes) (k .bytes) or member xs k
+
+-- "A key already held leaves the list unchanged. Else, if the list is full, the key stored longest ago is removed; the new
+-- one goes last"
+unfoldable pub stored : List AccountKey → AccountKey → List AccountKey
+stored l k =
+    if member l k then l else
+    if leb limit (length l) then drop 1 l ++ (k ∷ []) else
+    l ++ (k ∷ [])
+
+-- "every key starts with 0x04", "no key twice"
+unfoldable pub owned : List AccountKey → Bool
+owned [] = true
+owned (k ∷ ks) = eqb (getD (k .bytes) 0 0) 0x04 and not (member ks k) and owned ks
+
+-- sixteen bytes
+abbrev pub Sized : AccountKey → Type 0
+Sized k = (length (k .bytes) ≡ 16) × All (λ b. b < 256) (k .bytes)
+
+-- the value holds a list of at most `limit` keys, and nothing in the places that are not in use
+pub record Kept (ks : AccountKeys) : Type 0 where
+  pub few : ks .count ≤ limit
+  pub whole : ks ≡ kept (held ks)
+
+-- what holds of every list that power-on read or an event left
+pub record Valid (ks : AccountKeys) : Type 0 where
+  pub canonical : Kept ks
+  pub sized : All Sized (held ks)
+  pub known : owned (held ks) ≡ true

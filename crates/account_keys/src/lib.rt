@@ -1,0 +1,205 @@
+// The owners' account keys, and the stored list: document 01, "The device and its events" and "Stored list".
+use basics::Output;
+use basics::Report;
+ghost use mathlib.Core.Path.{_≡_};
+ghost use mathlib.Core.List.{[], _∷_, _++_};
+ghost use Prim.Native.Nat.{_+_, _*_, _<_, _≤_};
+ghost use lib.ListN.{length, drop};
+ghost use Rattle.basics.specs.Output.{reportOf, placed};
+ghost use Rattle.account_keys.specs.Keys.{Valid, Kept, limit, held, kept, member, stored};
+ghost use Rattle.account_keys.specs.StoredList.{keyBytes, keysIn, noReading, readingOf, reading, writing};
+
+// The most keys that are held.
+const LIMIT: usize = 5;
+// The keys that stay when one is removed from a full list.
+const LAST: usize = LIMIT - 1;
+
+// The key that a phone wrote to become an owner.
+pub struct AccountKey {
+    pub bytes: [u8; 16],
+}
+
+// The keys held, oldest stored first, none twice: the first `count` of `keys`; the other places are zero.
+pub struct AccountKeys {
+    pub keys: [AccountKey; LIMIT],
+    pub count: usize,
+}
+
+// Whether a stored list could be read.
+pub enum ListForm {
+    WellFormed,
+    Malformed,
+}
+
+// That, and the keys it held: none if it was malformed.
+pub struct Reading {
+    pub form: ListForm,
+    pub keys: AccountKeys,
+}
+
+impl AccountKeys {
+    pub fn none() -> AccountKeys
+        ensures { λ r. ⌜ r ≡ kept [] ⌝ }
+    {
+        AccountKeys {
+            keys: [AccountKey { bytes: [0u8; 16] }; LIMIT],
+            count: 0,
+        }
+    }
+
+    pub fn holds(self, key: AccountKey) -> bool
+        requires { ⌜ Kept self ⌝ }
+        ensures { λ r. ⌜ r ≡ member (held self) key ⌝ }
+    {
+        let n = self.count;
+        let mut i = 0;
+        while i < n {
+            let k = self.keys[i];
+            if basics::same(&k.bytes, &key.bytes) {
+                return true;
+            }
+            i += 1;
+        }
+        false
+    }
+
+    // The keys after an account key write: one that is held changes nothing, and a full list loses its oldest.
+    pub fn store(self, key: AccountKey) -> AccountKeys
+        requires { ⌜ Kept self ⌝ }
+        ensures { λ r. ⌜ r ≡ kept (stored (held self) key) ⌝ }
+    {
+        if self.holds(key) {
+            return self;
+        }
+        let n = self.count;
+        if LIMIT <= n {
+            let rest = self.without_oldest();
+            return rest.push(key);
+        }
+        self.push(key)
+    }
+
+    // One key more, last.
+    fn push(mut self, key: AccountKey) -> AccountKeys
+        requires { ⌜ Kept self × (self .count < limit) ⌝ }
+        ensures { λ r. ⌜ r ≡ kept (held self ++ (key ∷ [])) ⌝ }
+    {
+        let n = self.count;
+        self.keys[n] = key;
+        self.count = n + 1;
+        self
+    }
+
+    // The key stored longest ago removed from a full list.
+    fn without_oldest(self) -> AccountKeys
+        requires { ⌜ Kept self × (limit ≤ self .count) ⌝ }
+        ensures { λ r. ⌜ r ≡ kept (drop 1 (held self)) ⌝ }
+    {
+        let mut rest = AccountKeys::none();
+        let mut i = 0;
+        while i < LAST {
+            rest.keys[i] = self.keys[i + 1];
+            i += 1;
+        }
+        rest.count = LAST;
+        rest
+    }
+
+    // The stored list written to `out`, if all of it has room there.
+    pub fn write(self, out: &mut [u8]) -> Report
+        requires { ⌜ Valid self ⌝ }
+        ensures { λ r. ⌜ r ≡ reportOf (writing (held self)) (now (out .entry)) ⌝ }
+        ensures { λ r. ⌜ now (out .exit) ≡ placed (writing (held self)) (now (out .entry)) ⌝ }
+    {
+        let n = self.count;
+        let rest = 2 + 16 * n;
+        if out.len() < rest + 2 {
+            return Report {
+                output: Output::TooShort,
+                length: 0,
+            };
+        }
+        out[0] = ((rest >> 8) % 256) as u8;
+        out[1] = ((rest >> 0) % 256) as u8;
+        out[2] = 0x01;
+        out[3] = (n % 256) as u8;
+        self.write_keys(&mut out[4..]);
+        Report {
+            output: Output::Written,
+            length: rest + 2,
+        }
+    }
+
+    fn write_keys(self, out: &mut [u8])
+        requires { ⌜ Valid self × (16 * self .count ≤ length (now out)) ⌝ }
+        ensures { λ r. ⌜ now (out .exit) ≡ keyBytes (held self) ++ drop (16 * self .count) (now (out .entry)) ⌝ }
+    {
+        let n = self.count;
+        let mut i = 0;
+        while i < n {
+            let key = self.keys[i];
+            let block = key.bytes;
+            basics::put(out, 16 * i, block);
+            i += 1;
+        }
+    }
+}
+
+// The keys of a stored list, of any length and any bytes.
+pub fn read(src: &[u8]) -> Reading
+    ensures { λ r. ⌜ r ≡ reading (now (src .entry)) ⌝ }
+{
+    if src.len() < 4 {
+        return malformed();
+    }
+    if (src[0] as usize) * 256 + (src[1] as usize) != src.len() - 2 {
+        return malformed();
+    }
+    if src[2] != 0x01 {
+        return malformed();
+    }
+    let n = src[3] as usize;
+    if LIMIT < n {
+        return malformed();
+    }
+    if src.len() != 4 + 16 * n {
+        return malformed();
+    }
+    read_keys(src, n)
+}
+
+fn malformed() -> Reading
+    ensures { λ r. ⌜ r ≡ noReading ⌝ }
+{
+    Reading {
+        form: ListForm::Malformed,
+        keys: AccountKeys::none(),
+    }
+}
+
+// The `n` keys after the header, each checked against those before it.
+fn read_keys(src: &[u8], n: usize) -> Reading
+    requires { ⌜ (n ≤ limit) × (length (now src) ≡ 4 + 16 * n) ⌝ }
+    ensures { λ r. ⌜ r ≡ readingOf (keysIn (now (src .entry)) n) ⌝ }
+{
+    let mut keys = AccountKeys::none();
+    let mut i = 0;
+    while i < n {
+        let block = basics::sixteen(src, 4 + 16 * i);
+        let first = block[0];
+        let key = AccountKey { bytes: block };
+        if first != 0x04 {
+            return malformed();
+        }
+        if keys.holds(key) {
+            return malformed();
+        }
+        let more = keys.push(key);
+        keys = more;
+        i += 1;
+    }
+    Reading {
+        form: ListForm::WellFormed,
+        keys: keys,
+    }
+}

@@ -1,0 +1,25 @@
+-- What a function does with an output that the caller lends: all of a text, or nothing.
+-- Assumes nothing.
+use mathlib.Core.List.{List, _++_}
+use Prim.Native.Nat.{ℕ}
+use lib.Dec.{leb}
+use lib.ListN.{length, drop}
+use Rattle.laws.specs.Choice.{if_then_else_}
+use Rattle.basics.specs.declared.Output.{Output}
+use Rattle.basics.specs.declared.Output.the-variants.{Written, TooShort}
+use Rattle.basics.specs.declared.Report.{Report}
+
+-- document 01's numbers: 0 "taken", 13 "lent output too short"
+abbrev pub outputNumber : Output → ℕ
+outputNumber Written = 0
+outputNumber TooShort = 13
+
+-- "Answer 13 if the output is shorter than the whole structure"; the length is handed out with 0
+abbrev pub reportOf : List ℕ → List ℕ → Report
+reportOf text out =
+    if leb (length text) (length out) then record { output = Written; length = length text } else
+    record { output = TooShort; length = 0 }
+
+-- "Bytes past those written stay", and a refusal writes nothing
+abbrev pub placed : List ℕ → List ℕ → List ℕ
+placed text out = if leb (length text) (length out) then text ++ drop (length text) out else out

@@ -1,0 +1,72 @@
+// What every layer of the provider speaks of: link numbers and moments, addresses, blocks of sixteen bytes, lent outputs.
+ghost use mathlib.Core.Path.{_≡_};
+ghost use Prim.Native.Nat.{_+_, _≤_};
+ghost use lib.ListN.{length};
+ghost use lib.Seq.{paste};
+ghost use Rattle.basics.specs.Bytes as spec;
+
+// The number of a link, of which 0 to 7 exist.
+pub struct Link(pub u8);
+
+// A moment of the device's clock, in milliseconds.
+pub struct Moment(pub u64);
+
+// A Bluetooth address, in the order in which a request names it.
+pub struct Address {
+    pub bytes: [u8; 6],
+}
+
+// What became of a text that goes to a lent output.
+pub enum Output {
+    Written,
+    TooShort,
+}
+
+// That, and how many bytes were written.
+pub struct Report {
+    pub output: Output,
+    pub length: usize,
+}
+
+// Whether two byte strings are equal: addresses, salts and keys are compared here.
+pub fn same(a: &[u8], b: &[u8]) -> bool
+    ensures { λ r. ⌜ r ≡ spec.same (now (a .entry)) (now (b .entry)) ⌝ }
+{
+    if a.len() != b.len() {
+        return false;
+    }
+    let mut i = 0;
+    while i < a.len() {
+        if a[i] != b[i] {
+            return false;
+        }
+        i += 1;
+    }
+    true
+}
+
+// The sixteen bytes of `src` from `at` on.
+pub fn sixteen(src: &[u8], at: usize) -> [u8; 16]
+    requires { ⌜ at + 16 ≤ length (now src) ⌝ }
+    ensures { λ r. ⌜ r ≡ spec.sixteenAt at (now (src .entry)) ⌝ }
+{
+    let mut block = [0u8; 16];
+    let mut i = 0;
+    while i < 16 {
+        block[i] = src[at + i];
+        i += 1;
+    }
+    block
+}
+
+// `block` copied into `out` from `at` on.
+pub fn put(out: &mut [u8], at: usize, block: [u8; 16])
+    requires { ⌜ at + 16 ≤ length (now out) ⌝ }
+    ensures { λ r. ⌜ now (out .exit) ≡ paste (now (out .entry)) at block 16 ⌝ }
+{
+    let mut i = 0;
+    while i < 16 {
+        out[at + i] = block[i];
+        i += 1;
+    }
+}

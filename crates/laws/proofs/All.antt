@@ -1,0 +1,27 @@
+-- What holds of each element of a list.
+-- Assumes nothing.
+use mathlib.Core.List.{List, [], _∷_, _++_}
+use Prim.Native.Nat.{ℕ, zero, suc, _<_}
+use native.Mathlib.Nat.{le-of-suc-le-suc, not-suc-le-zero}
+use lib.ListN.{length, take, drop, getD}
+use Rattle.laws.specs.Lists.{All}
+
+module _ {ℓ} {A : Type ℓ} (P : A → Type 0) where
+  pub all-get : (l : List A) → All P l → (i : ℕ) (z : A) → i < length l → P (getD l i z)
+  all-get [] p i z h = absurd (not-suc-le-zero h)
+  all-get (x ∷ xs) p zero z h = p .0
+  all-get (x ∷ xs) p (suc i) z h = all-get xs (p .1) i z (le-of-suc-le-suc h)
+
+  pub all-take : (n : ℕ) (l : List A) → All P l → All P (take n l)
+  all-take zero l p = tt
+  all-take (suc n) [] p = tt
+  all-take (suc n) (x ∷ xs) p = (p .0, all-take n xs (p .1))
+
+  pub all-drop : (n : ℕ) (l : List A) → All P l → All P (drop n l)
+  all-drop zero l p = p
+  all-drop (suc n) [] p = tt
+  all-drop (suc n) (x ∷ xs) p = all-drop n xs (p .1)
+
+  pub all-append : (a b : List A) → All P a → All P b → All P (a ++ b)
+  all-append [] b p q = q
+  all-append (x ∷ xs) b p q = (p .0, all-append xs b (p .1) q)

@@ -1,0 +1,21 @@
+-- Tests, taken apart and put together.
+-- Assumes nothing.
+use mathlib.Core.Bool.{Bool, true, false}
+use mathlib.Core.Path.{_≡_, refl, subst, sym}
+use lib.Dec.{T}
+use Rattle.laws.specs.Choice.{_and_}
+
+pub true-is : {b : Bool} → b ≡ true → T b
+true-is e = subst T (sym e) tt
+
+pub is-true : (b : Bool) → T b → b ≡ true
+is-true true t = refl
+is-true false t = absurd t
+
+pub and-left : (a b : Bool) → (a and b) ≡ true → a ≡ true
+and-left true b e = refl
+and-left false b e = e
+
+pub and-right : (a b : Bool) → (a and b) ≡ true → b ≡ true
+and-right true b e = e
+and-right false b e = absurd (true-is e)
