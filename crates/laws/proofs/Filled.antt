@@ -29,6 +29,12 @@ pub tabulate-getD : {A : Type 0} (l : List A) (d : A) → tabulate (length l) (�
 tabulate-getD [] d = refl
 tabulate-getD (x ∷ l) d = ap (λ t. x ∷ t) (tabulate-getD l d)
 
+-- what holds of each value, and of the value past the end, holds at every place
+pub tabulate-all : {A : Type 0} (P : A → Type 0) (n : ℕ) (f : ℕ → A) (d : A) → P d → ((i : ℕ) → P (f i)) → (i : ℕ) → P (getD (tabulate n f) i d)
+tabulate-all P zero f d p q i = p
+tabulate-all P (suc n) f d p q zero = q zero
+tabulate-all P (suc n) f d p q (suc i) = tabulate-all P n (λ k. f (suc k)) d p (λ k. q (suc k)) i
+
 pub record Filled {A : Type 0} (d : A) (n : ℕ) (f : ℕ → A) (i : ℕ) (l : List A) : Type 0 where
   pub long : length l ≡ n
   pub within : i ≤ n
@@ -45,12 +51,12 @@ more {d = d} {f = f} {i = i} {l = l} {v = v} p h e =
       long = length-set l i v ∙ p .long;
       within = omega arith;
       done = below-more (λ k. getD (set l i v) k d ≡ f k) i
-        (λ k lt. getD-set-other l i k v d (λ q. omega arith) ∙ p .done k lt)
-        (getD-set-same l i v d (omega (arith, p .long)) ∙ e)
+          (λ k lt. getD-set-other l i k v d (λ q. omega arith) ∙ p .done k lt)
+          (getD-set-same l i v d (omega (arith, p .long)) ∙ e);
     }
 
 -- all places
-pub whole : {A : Type 0} {d : A} {n : ℕ} {f : ℕ → A} {l : List A} → Filled d n f n l → l ≡ tabulate n f
-whole {d = d} {n = n} {f = f} {l = l} p =
+pub whole : {A : Type 0} {d : A} {n : ℕ} {f : ℕ → A} {i : ℕ} {l : List A} → Filled d n f i l → n ≤ i → l ≡ tabulate n f
+whole {d = d} {n = n} {f = f} {l = l} p h =
     ext-getD d l (tabulate n f) (p .long ∙ sym (length-tabulate n f))
-    (λ i h. p .done i (omega (arith, p .long)) ∙ sym (getD-tabulate n f i d (omega (arith, p .long))))
+    (λ k hk. p .done k (omega (arith, p .long)) ∙ sym (getD-tabulate n f k d (omega (arith, p .long))))

@@ -1,3 +1,5 @@
+pub mod Additive
 pub mod Filled
+pub mod Several
 pub mod Table
 pub mod Xor
