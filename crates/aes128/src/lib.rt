@@ -50,7 +50,7 @@ pub fn decrypt(key: [u8; 16], block: [u8; 16]) -> [u8; 16]
 }
 
 // KEYEXPANSION: the round keys 0 to 10, each from the one before.
-fn key_expansion(key: [u8; 16]) -> [[u8; 16]; 11]
+pub fn key_expansion(key: [u8; 16]) -> [[u8; 16]; 11]
     ensures { λ r. ⌜ r ≡ keyExpansion key ⌝ }
 {
     let mut keys = [key; 11];
