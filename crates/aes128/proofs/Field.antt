@@ -1,11 +1,11 @@
 -- Multiplication in the field is additive, and its results are bytes.
 -- Assumes nothing.
 use mathlib.Core.Path.{_≡_, refl, sym, _∙_, ap}
-use Prim.Native.Nat.{ℕ, zero, suc, _+_, _*_, _/_, _%_, _^_, _<_}
+use Prim.Native.Nat.{ℕ, zero, suc, _*_, _/_, _%_, _^_, _<_}
 use native.Mathlib.Nat.{mod-lt}
 use native.Mathlib.Omega.{arith}
 use lib.Dec.{lit<}
-use lib.Bits.{bitXor, xor-lt, xor-shr, xor-mod}
+use lib.Bits.{xor-lt, xor-shr, xor-mod}
 use Rattle.laws.proofs.Additive.{Additive}
 use Rattle.laws.proofs.Xor.{by-bits, xor-exchange, xor-shl}
 use Rattle.aes128.specs.Field.{_⊕_, _•_, bit, xTimes, plusIf, product}

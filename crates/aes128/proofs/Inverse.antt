@@ -1,6 +1,6 @@
 -- Decryption undoes encryption: each step of INVCIPHER undoes one of CIPHER, from the last round back to the first.
 -- Assumes nothing.
-use mathlib.Core.Path.{_≡_, refl, sym, _∙_, ap}
+use mathlib.Core.Path.{_≡_, refl, _∙_, ap}
 use mathlib.Core.List.{List, []}
 use Prim.Native.Nat.{ℕ, zero, suc, _+_, _*_, _%_, _<_}
 use lib.Dec.{lit<}
@@ -14,7 +14,7 @@ use Rattle.aes128.specs.Inverse.{Block, Undoes}
 use Rattle.aes128.specs.KeyExpansion.{roundKey}
 use Rattle.aes128.specs.Rounds.{times, mixMatrix, mixBy, subBytes, shiftRows, mixColumns, addRoundKey, invSubBytes, invShiftRows, invMixColumns}
 use Rattle.aes128.specs.SBox.{sBox, invSBox}
-use Rattle.aes128.specs.State.{at, state}
+use Rattle.aes128.specs.State.{at}
 use Rattle.aes128.proofs.Field.{mul-lt}
 use Rattle.aes128.proofs.Matrix.{invMixColumns-mixColumns}
 use Rattle.aes128.proofs.SBox.{sBox-lt, invSBox-sBox}

@@ -2,7 +2,7 @@
 -- Assumes nothing.
 use mathlib.Core.Path.{_≡_, refl, sym, _∙_, ap}
 use mathlib.Core.List.{List, [], _∷_}
-use Prim.Native.Nat.{ℕ, zero, suc, _+_, _*_, _/_, _%_, _^_, _-_, _<_}
+use Prim.Native.Nat.{ℕ, zero, suc, _+_, _*_, _/_, _%_, _-_, _<_}
 use native.Mathlib.Nat.{not-suc-le-zero}
 use native.Mathlib.Numerals.{add-one}
 use native.Mathlib.Omega.{arith}
@@ -14,9 +14,9 @@ use mir.Syntax.{w8}
 use mir.Val.{Fits}
 use Rattle.laws.specs.Tabulate.{tabulate}
 use Rattle.laws.proofs.Filled.{getD-tabulate, tabulate-ext, Filled}
-use Rattle.laws.proofs.Xor.{by-bit, xor-turn}
+use Rattle.laws.proofs.Xor.{by-bit, xor-left, xor-turn}
 use Rattle.aes128.specs.Cipher.{keyExpansion, rounds, cipherBy, cipher, invRounds, invCipherBy, invCipher}
-use Rattle.aes128.specs.Field.{_⊕_, _•_, bit, xTimes, product}
+use Rattle.aes128.specs.Field.{_⊕_, _•_, xTimes, product}
 use Rattle.aes128.specs.KeyExpansion.{subWord, xPower, word, roundKey}
 use Rattle.aes128.specs.Rounds.{times, mixBy, subBytes, shiftRows, mixColumns, addRoundKey, invSubBytes, invShiftRows, invMixColumns}
 use Rattle.aes128.specs.SBox.{sBox}
@@ -74,36 +74,37 @@ turns a b c d = (a ∷ b ∷ c ∷ d ∷ []) ∷ (d ∷ a ∷ b ∷ c ∷ []) �
 turned-mix : (w x y z : ℕ) (s : List ℕ) → turnedSum (scaled w s) (scaled x s) (scaled y s) (scaled z s) ≡ mixBy (turns w x y z) s
 unfolding turnedSum mixBy
 turned-mix w x y z s =
-    state-ext
-    (λ r c. at (scaled w s) r c ⊕ at (scaled x s) ((r + 1) % 4) c ⊕ at (scaled y s) ((r + 2) % 4) c ⊕ at (scaled z s) ((r + 3) % 4) c)
-    (λ r c. times (getD (turns w x y z) r []) (at s 0 c) (at s 1 c) (at s 2 c) (at s 3 c))
-    (λ r c hr hc. by-row (λ r. entry r c ≡ times (getD (turns w x y z) r []) (at s 0 c) (at s 1 c) (at s 2 c) (at s 3 c))
-    (entry-is 0 1 2 3 c hc (lit< tt) (lit< tt) (lit< tt) (lit< tt))
-    (entry-is 1 2 3 0 c hc (lit< tt) (lit< tt) (lit< tt) (lit< tt) ∙ once 1 2 3 0 c)
-    (entry-is 2 3 0 1 c hc (lit< tt) (lit< tt) (lit< tt) (lit< tt) ∙ once 2 3 0 1 c ∙ xor-turn (z • at s 1 c) (w • at s 2 c) (x • at s 3 c) (y • at s 0 c))
-    (entry-is 3 0 1 2 c hc (lit< tt) (lit< tt) (lit< tt) (lit< tt) ∙ sym (xor-turn (x • at s 0 c) (y • at s 1 c) (z • at s 2 c) (w • at s 3 c)))
-    r hr)
+    state-ext entry (λ r c. mixed r c)
+    (λ r c hr hc.
+    by-row (λ r. entry r c ≡ mixed r c) (given 0 1 2 3 hc (lit< tt) (lit< tt) (lit< tt) (lit< tt))
+    (given 1 2 3 0 hc (lit< tt) (lit< tt) (lit< tt) (lit< tt) ∙ turn (w • at s 1 c) (x • at s 2 c) (y • at s 3 c) (z • at s 0 c))
+    (given 2 3 0 1 hc (lit< tt) (lit< tt) (lit< tt) (lit< tt) ∙ turn (w • at s 2 c) (x • at s 3 c) (y • at s 0 c) (z • at s 1 c) ∙ turn (z • at s 1 c) (w • at s 2 c) (x • at s 3 c) (y • at s 0 c))
+    (given 3 0 1 2 hc (lit< tt) (lit< tt) (lit< tt) (lit< tt) ∙ sym (turn (x • at s 0 c) (y • at s 1 c) (z • at s 2 c) (w • at s 3 c))) r hr)
   where
     entry : ℕ → ℕ → ℕ
-    entry r c = at (scaled w s) r c ⊕ at (scaled x s) ((r + 1) % 4) c ⊕ at (scaled y s) ((r + 2) % 4) c ⊕ at (scaled z s) ((r + 3) % 4) c
+    entry r c = at (scaled w s) r c ⊕ (at (scaled x s) ((r + 1) % 4) c ⊕ (at (scaled y s) ((r + 2) % 4) c ⊕ at (scaled z s) ((r + 3) % 4) c))
 
-    entry-is : (i j k l c : ℕ) → c < 4 → i < 4 → j < 4 → k < 4 → l < 4
-        → at (scaled w s) i c ⊕ at (scaled x s) j c ⊕ at (scaled y s) k c ⊕ at (scaled z s) l c
+    mixed : ℕ → ℕ → ℕ
+    mixed r c = times (getD (turns w x y z) r []) (at s 0 c) (at s 1 c) (at s 2 c) (at s 3 c)
+
+    turn : (a b c d : ℕ) → a ⊕ b ⊕ c ⊕ d ≡ d ⊕ a ⊕ b ⊕ c
+    turn = xor-turn
+
+    given : (i j k l : ℕ) {c : ℕ} → c < 4 → i < 4 → j < 4 → k < 4 → l < 4
+        → at (scaled w s) i c ⊕ (at (scaled x s) j c ⊕ (at (scaled y s) k c ⊕ at (scaled z s) l c))
         ≡ w • at s i c ⊕ x • at s j c ⊕ y • at s k c ⊕ z • at s l c
-    entry-is i j k l c hc hi hj hk hl = rw (scaled-at w s i c hi hc, scaled-at x s j c hj hc, scaled-at y s k c hk hc, scaled-at z s l c hl hc)
-
-    once : (i j k l c : ℕ)
-        → w • at s i c ⊕ x • at s j c ⊕ y • at s k c ⊕ z • at s l c ≡ z • at s l c ⊕ w • at s i c ⊕ x • at s j c ⊕ y • at s k c
-    once i j k l c = xor-turn (w • at s i c) (x • at s j c) (y • at s k c) (z • at s l c)
+    given i j k l {c} hc hi hj hk hl =
+        rw (scaled-at w s i c hi hc, scaled-at x s j c hj hc, scaled-at y s k c hk hc, scaled-at z s l c hl hc)
+        (xor-left (w • at s i c) (x • at s j c) (y • at s k c) (z • at s l c))
 
 pub mixColumns-made : (s : List ℕ) → turnedSum (doubled s) (sum (doubled s) s) s s ≡ mixColumns s
 unfolding mixColumns turnedSum scaled _•_ product doubled sum
 mixColumns-made s = turned-mix 2 3 1 1 s
 
-pub invMixColumns-made : (s two four eight : List ℕ) → two ≡ doubled s → four ≡ doubled two → eight ≡ doubled four
+pub invMixColumns-made : (s : List ℕ) {two four eight : List ℕ} → two ≡ doubled s → four ≡ doubled two → eight ≡ doubled four
     → turnedSum (sum (sum eight four) two) (sum (sum eight two) s) (sum (sum eight four) s) (sum eight s) ≡ invMixColumns s
 unfolding invMixColumns turnedSum scaled _•_ product doubled sum
-invMixColumns-made s two four eight p q r = rw (r, q, p) (turned-mix 14 11 13 9 s)
+invMixColumns-made s p q r = rw (r, q, p) (turned-mix 14 11 13 9 s)
 
 -- ---- the round keys
 

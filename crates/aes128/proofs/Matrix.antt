@@ -2,20 +2,18 @@
 -- Assumes nothing.
 use mathlib.Core.Path.{_≡_, refl, sym, _∙_, ap}
 use mathlib.Core.Bool.{Bool, true, false, cond}
-use mathlib.Core.List.{List, [], _∷_}
-use Prim.Native.Nat.{ℕ, zero, suc, _+_, _*_, _/_, _%_, _^_, _<_}
-use native.Mathlib.Omega.{arith}
+use mathlib.Core.List.{List, []}
+use Prim.Native.Nat.{ℕ, _+_, _*_, _^_, _<_}
 use lib.Dec.{T, eqb, eqb→eq, lit<}
-use lib.ListN.{length, getD, replicate}
+use lib.ListN.{getD, replicate}
 use lib.Bits.{xor-zero-r}
-use Rattle.laws.specs.Tabulate.{tabulate}
 use Rattle.laws.proofs.Additive.{Additive, agree}
 use Rattle.laws.proofs.Table as table
 use Rattle.laws.proofs.Xor.{xor-exchange}
 use Rattle.aes128.specs.Field.{_⊕_, _•_, xTimes, product}
 use Rattle.aes128.specs.Inverse.{Block}
 use Rattle.aes128.specs.Rounds.{times, mixBy, mixMatrix, invMixMatrix, mixColumns, invMixColumns}
-use Rattle.aes128.specs.State.{at, state}
+use Rattle.aes128.specs.State.{at}
 use Rattle.aes128.proofs.Field.{mul-additive}
 use Rattle.aes128.proofs.State.{state-ext, at-state, state-at, by-row}
 

@@ -1,6 +1,6 @@
--- The tables of src/tables.rt follow from the rule of §5.1.1: one test, computed at each of the 256 bytes, and what it shows.
+-- The tables of src/substitution.rt and src/inv_substitution.rt follow from the rule of §5.1.1: one test, computed at each of the 256 bytes, and what it shows.
 -- Assumes nothing.
-use mathlib.Core.Path.{_≡_, refl, sym, _∙_, ap, subst}
+use mathlib.Core.Path.{_≡_, refl, sym, _∙_, ap}
 use mathlib.Core.Bool.{Bool, true, false, cond}
 use mathlib.Core.List.{List, [], _∷_}
 use mathlib.Core.Logic.{⊎-elim}
@@ -8,7 +8,7 @@ use Prim.Native.Nat.{ℕ, zero, suc, _<_}
 use native.Mathlib.Nat.{eq-or-lt-of-le, le-of-suc-le-suc, not-suc-le-zero}
 use native.Mathlib.Omega.{arith}
 use lib.Dec.{T, eqb, eqb→eq, eqb-refl, eqb·suc-zero, ltb, ltb→lt}
-use lib.ListN.{length, getD}
+use lib.ListN.{getD}
 use Rattle.laws.proofs.Several.{all, place}
 use Rattle.laws.proofs.Table.{every, at}
 use Rattle.aes128.specs.Field.{xTimes, product, _•_}

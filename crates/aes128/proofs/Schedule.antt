@@ -1,6 +1,6 @@
 -- The round keys, four words at a time, are the standard's words w[i]; and they are bytes if the key is.
 -- Assumes nothing.
-use mathlib.Core.Path.{_≡_, refl, sym, _∙_, ap}
+use mathlib.Core.Path.{_≡_, _∙_, ap}
 use mathlib.Core.List.{List, [], _∷_}
 use Prim.Native.Nat.{ℕ, zero, suc, _+_, _*_, _-_, _/_, _%_, _<_}
 use native.Mathlib.Omega.{arith}
@@ -8,7 +8,7 @@ use lib.Dec.{lit<}
 use lib.ListN.{getD}
 use lib.Bits.{xor-lt}
 use Rattle.laws.proofs.Filled.{tabulate-all}
-use Rattle.aes128.specs.Field.{_⊕_, xTimes}
+use Rattle.aes128.specs.Field.{_⊕_}
 use Rattle.aes128.specs.SBox.{sBox}
 use Rattle.aes128.specs.State.{columnOf, columns}
 use Rattle.aes128.specs.KeyExpansion.{rotWord, subWord, xorWord, xPower, rcon, temp, word, roundKey}

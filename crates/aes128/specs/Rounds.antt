@@ -1,7 +1,7 @@
 -- FIPS 197 §5.1 and §5.3: the steps of a round, and their inverses.
 -- Assumes nothing.
 use mathlib.Core.List.{List, [], _∷_}
-use Prim.Native.Nat.{ℕ, _+_, _*_, _-_, _%_}
+use Prim.Native.Nat.{ℕ, _+_, _-_, _%_}
 use lib.ListN.{getD}
 use Rattle.aes128.specs.Field.{_⊕_, _•_}
 use Rattle.aes128.specs.SBox.{sBox, invSBox}

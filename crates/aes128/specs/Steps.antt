@@ -27,7 +27,7 @@ turned s = state (λ r c. at s ((r + 1) % 4) c)
 -- the sum of four blocks, of which the columns of the second, third and fourth are turned by one, two and three
 unfoldable pub turnedSum : List ℕ → List ℕ → List ℕ → List ℕ → List ℕ
 turnedSum w x y z =
-    state (λ r c. at w r c ⊕ at x ((r + 1) % 4) c ⊕ at y ((r + 2) % 4) c ⊕ at z ((r + 3) % 4) c)
+    state (λ r c. at w r c ⊕ (at x ((r + 1) % 4) c ⊕ (at y ((r + 2) % 4) c ⊕ at z ((r + 3) % 4) c)))
 
 -- the round key after k, where x is the first byte of the round's Rcon: proofs/Schedule.antt ties it to w[i]
 unfoldable pub nextRoundKey : List ℕ → ℕ → List ℕ

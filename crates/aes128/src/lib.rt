@@ -1,6 +1,7 @@
 // AES-128: FIPS 197, one block encrypted (§5.1) and decrypted (§5.3), with the key expansion (§5.2).
 // specs/ has the standard's definitions; proofs/Inverse.antt proves that decryption undoes encryption.
-mod tables;
+mod inv_substitution;
+mod substitution;
 
 ghost use mathlib.Core.Path.{_≡_};
 ghost use Prim.Native.Nat.{_<_};
@@ -95,7 +96,7 @@ fn rot_word(w: [u8; 4]) -> [u8; 4]
 fn sub_word(w: [u8; 4]) -> [u8; 4]
     ensures { λ r. ⌜ r ≡ subWord w ⌝ }
 {
-    let t = &tables::SBOX;
+    let t = &substitution::SBOX;
     [look(t, w[0]), look(t, w[1]), look(t, w[2]), look(t, w[3])]
 }
 
@@ -137,59 +138,35 @@ fn add_round_key(s: [u8; 16], k: [u8; 16]) -> [u8; 16]
 fn sub_bytes(s: [u8; 16]) -> [u8; 16]
     ensures { λ r. ⌜ r ≡ subBytes s ⌝ }
 {
-    substitute(&tables::SBOX, s)
+    substitute(&substitution::SBOX, s)
 }
 
 fn inv_sub_bytes(s: [u8; 16]) -> [u8; 16]
     ensures { λ r. ⌜ r ≡ invSubBytes s ⌝ }
 {
-    substitute(&tables::INV_SBOX, s)
+    substitute(&inv_substitution::INV_SBOX, s)
 }
 
 fn shift_rows(s: [u8; 16]) -> [u8; 16]
     ensures { λ r. ⌜ r ≡ shiftRows s ⌝ }
 {
-    [
-        s[0],
-        s[5],
-        s[10],
-        s[15],
-        s[4],
-        s[9],
-        s[14],
-        s[3],
-        s[8],
-        s[13],
-        s[2],
-        s[7],
-        s[12],
-        s[1],
-        s[6],
-        s[11],
-    ]
+    join(
+        [s[0], s[5], s[10], s[15]],
+        [s[4], s[9], s[14], s[3]],
+        [s[8], s[13], s[2], s[7]],
+        [s[12], s[1], s[6], s[11]],
+    )
 }
 
 fn inv_shift_rows(s: [u8; 16]) -> [u8; 16]
     ensures { λ r. ⌜ r ≡ invShiftRows s ⌝ }
 {
-    [
-        s[0],
-        s[13],
-        s[10],
-        s[7],
-        s[4],
-        s[1],
-        s[14],
-        s[11],
-        s[8],
-        s[5],
-        s[2],
-        s[15],
-        s[12],
-        s[9],
-        s[6],
-        s[3],
-    ]
+    join(
+        [s[0], s[13], s[10], s[7]],
+        [s[4], s[1], s[14], s[11]],
+        [s[8], s[5], s[2], s[15]],
+        [s[12], s[9], s[6], s[3]],
+    )
 }
 
 // The coefficients {02}, {03}, {01}, {01}, each times the whole state; a row of the matrix is the last row turned.
@@ -209,39 +186,29 @@ fn inv_mix_columns(s: [u8; 16]) -> [u8; 16]
     let four = double_all(two);
     let eight = double_all(four);
     let nine = xor(eight, s);
-    let eleven = xor(xor(eight, two), s);
-    let thirteen = xor(xor(eight, four), s);
-    let fourteen = xor(xor(eight, four), two);
+    let ten = xor(eight, two);
+    let eleven = xor(ten, s);
+    let twelve = xor(eight, four);
+    let thirteen = xor(twelve, s);
+    let fourteen = xor(twelve, two);
     turned_sum(fourteen, eleven, thirteen, nine)
 }
 
 fn turned_sum(w: [u8; 16], x: [u8; 16], y: [u8; 16], z: [u8; 16]) -> [u8; 16]
     ensures { λ r. ⌜ r ≡ turnedSum w x y z ⌝ }
 {
-    xor(xor(xor(w, turn(x)), turn(turn(y))), turn(turn(turn(z))))
+    xor(w, turn(xor(x, turn(xor(y, turn(z))))))
 }
 
 fn turn(s: [u8; 16]) -> [u8; 16]
     ensures { λ r. ⌜ r ≡ turned s ⌝ }
 {
-    [
-        s[1],
-        s[2],
-        s[3],
-        s[0],
-        s[5],
-        s[6],
-        s[7],
-        s[4],
-        s[9],
-        s[10],
-        s[11],
-        s[8],
-        s[13],
-        s[14],
-        s[15],
-        s[12],
-    ]
+    join(
+        [s[1], s[2], s[3], s[0]],
+        [s[5], s[6], s[7], s[4]],
+        [s[9], s[10], s[11], s[8]],
+        [s[13], s[14], s[15], s[12]],
+    )
 }
 
 fn substitute(t: &[u8; 256], s: [u8; 16]) -> [u8; 16]

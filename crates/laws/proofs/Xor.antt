@@ -1,7 +1,7 @@
 -- Laws of exclusive or that the prover's library lacks: it is associative, so sums of it can be regrouped.
 -- Assumes nothing.
 use mathlib.Core.Path.{_≡_, refl, sym, _∙_, ap}
-use Prim.Native.Nat.{ℕ, zero, suc, _+_, _*_, _/_, _%_, _^_, _<_}
+use Prim.Native.Nat.{ℕ, zero, suc, _*_, _/_, _%_, _^_, _<_}
 use native.Mathlib.Nat.{mod-lt, add-zero}
 use native.Mathlib.Omega.{arith}
 use lib.Pow.{pow-pos}
@@ -43,6 +43,9 @@ xor-cancel a b = xor-assoc a b b ∙ ap (bitXor a) (xor-self b) ∙ xor-zero-r a
 
 pub xor-shl : (a b k : ℕ) → bitXor (a * 2 ^ k) (b * 2 ^ k) ≡ bitXor a b * 2 ^ k
 xor-shl a b k = simp add-zero at (xor-block k a b 0 0 (pow-pos k) (pow-pos k))
+
+pub xor-left : (a b c d : ℕ) → bitXor a (bitXor b (bitXor c d)) ≡ bitXor (bitXor (bitXor a b) c) d
+xor-left a b c d = sym (xor-assoc (bitXor a b) c d ∙ xor-assoc a b (bitXor c d))
 
 -- the last of four comes first
 pub xor-turn : (a b c d : ℕ) → bitXor (bitXor (bitXor a b) c) d ≡ bitXor (bitXor (bitXor d a) b) c

@@ -1,6 +1,5 @@
 -- The bytes added are those of the same row and column.
 -- Assumes nothing.
-use mathlib.Core.Path.{_≡_, refl, sym, _∙_, ap}
 use Rattle.aes128.specs.Rounds.{addRoundKey}
 use Rattle.aes128.specs.Steps.{sum}
 use borrow.Author.Needs.{needs}

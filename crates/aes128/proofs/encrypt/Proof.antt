@@ -1,8 +1,7 @@
 -- The invariant: s is the state after i rounds.
 -- Assumes nothing.
-use mathlib.Core.Path.{_≡_, refl, sym, _∙_, ap}
-use Prim.Native.Nat.{ℕ, zero, suc, _+_, _*_, _-_, _/_, _%_, _^_, _<_, _≤_}
-use mathlib.Core.List.{List, [], _∷_}
+use mathlib.Core.Path.{_≡_, refl}
+use Prim.Native.Nat.{_-_, _≤_}
 use native.Mathlib.Omega.{arith}
 use Rattle.aes128.specs.Cipher.{rounds}
 use Rattle.aes128.proofs.Laws.{rounds-more, cipher-made}
@@ -21,10 +20,32 @@ unfolding rounds
 loop-holds c = (search needs, refl)
 
 loop-again : tie.Need-loop-again Inv-loop μ-loop
-loop-again c = (search needs, rounds-more (c .before .before .before .before .before .before .before .before .before .key-expansion .result) (c .before .before .before .before .before .before .before .add-round-key .result) (c .before .before .before .before .before .before .loop .i) (c .before .before .before .before .before .before .loop .inv .1) (c .before .before .before .sub-bytes .ensures) (c .before .before .shift-rows .ensures) (c .before .mix-columns .ensures) (c .add-round-key2 .ensures))
+loop-again c = (
+  search needs,
+  rounds-more
+      (c .before .before .before .before .before .before .before .before .before .key-expansion .result)
+      (c .before .before .before .before .before .before .before .add-round-key .result)
+      (c .before .before .before .before .before .before .loop .i)
+      (c .before .before .before .before .before .before .loop .inv .1)
+      (c .before .before .before .sub-bytes .ensures)
+      (c .before .before .shift-rows .ensures)
+      (c .before .mix-columns .ensures)
+      (c .add-round-key2 .ensures),
+)
 
 returns : tie.Need-returns Inv-loop μ-loop
-returns c = cipher-made (c .before .before .before .before .before .before .before .before .before .args .key) (c .before .before .before .before .before .before .before .before .before .args .block) (c .before .before .before .before .before .loop .i) (c .before .before .before .before .before .before .before .before .key-expansion .ensures) (c .before .before .before .before .before .before .add-round-key .ensures) (c .before .before .before .before .before .loop .inv .1) (omega arith) (c .before .before .sub-bytes2 .ensures) (c .before .shift-rows2 .ensures) (c .add-round-key3 .ensures)
+returns c =
+    cipher-made
+    (c .before .before .before .before .before .before .before .before .before .args .key)
+    (c .before .before .before .before .before .before .before .before .before .args .block)
+    (c .before .before .before .before .before .loop .i)
+    (c .before .before .before .before .before .before .before .before .key-expansion .ensures)
+    (c .before .before .before .before .before .before .add-round-key .ensures)
+    (c .before .before .before .before .before .loop .inv .1)
+    (omega arith)
+    (c .before .before .sub-bytes2 .ensures)
+    (c .before .shift-rows2 .ensures)
+    (c .add-round-key3 .ensures)
 
 pub encrypt-spec : {M : Type 1} → statement M
 encrypt-spec =

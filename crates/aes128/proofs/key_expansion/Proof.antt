@@ -1,11 +1,11 @@
 -- The invariant: the round keys up to i are in their places, and the constant is x^i.
 -- Assumes nothing.
-use mathlib.Core.Path.{_≡_, refl, sym, _∙_, ap}
-use Prim.Native.Nat.{ℕ, zero, suc, _+_, _*_, _-_, _/_, _%_, _^_, _<_, _≤_}
-use mathlib.Core.List.{List, [], _∷_}
+use mathlib.Core.Path.{_≡_, refl}
+use Prim.Native.Nat.{_+_, _-_}
+use mathlib.Core.List.{[]}
 use native.Mathlib.Omega.{arith}
-use lib.ListN.{length, getD}
-use Rattle.laws.proofs.Filled.{Filled, none, more, whole}
+use lib.ListN.{getD}
+use Rattle.laws.proofs.Filled.{Filled, more, whole}
 use Rattle.aes128.specs.KeyExpansion.{xPower, roundKey}
 use Rattle.aes128.proofs.Laws.{filled-first, roundKey-more, xPower-more}
 use borrow.Author.Needs.{needs}
@@ -23,7 +23,23 @@ unfolding xPower
 loop-holds c = (filled-first (c .args .key) (search needs), refl)
 
 loop-again : tie.Need-loop-again Inv-loop μ-loop
-loop-again c = (more (c .before .before .before .before .loop .inv .0) (omega arith) (roundKey-more (c .before .before .before .before .before .args .key) (c .before .before .before .before .loop .i) (c .before .next-round-key .ensures) (c .before .before .before .before .loop .inv .0 .done (c .before .before .before .before .loop .i) (omega arith)) (c .before .before .before .before .loop .inv .1)), xPower-more (c .before .before .before .before .loop .i) (c .double .ensures) (c .before .before .before .before .loop .inv .1))
+loop-again c = (
+  more
+      (c .before .before .before .before .loop .inv .0)
+      (omega arith)
+      (roundKey-more
+      (c .before .before .before .before .before .args .key)
+      (c .before .before .before .before .loop .i)
+      (c .before .next-round-key .ensures)
+      (c .before .before .before .before .loop .inv .0 .done
+      (c .before .before .before .before .loop .i)
+      (omega arith))
+      (c .before .before .before .before .loop .inv .1)),
+  xPower-more
+      (c .before .before .before .before .loop .i)
+      (c .double .ensures)
+      (c .before .before .before .before .loop .inv .1),
+)
 
 returns : tie.Need-returns Inv-loop μ-loop
 returns c = whole (c .before .loop .inv .0) (omega arith)
