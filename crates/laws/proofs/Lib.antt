@@ -1,7 +1,11 @@
+pub mod Additive
 pub mod All
 pub mod BigEndian
 pub mod Choice
+pub mod Filled
 pub mod Lists
 pub mod Loops
 pub mod Padded
+pub mod Several
 pub mod Table
+pub mod Xor

@@ -1,3 +1,4 @@
 pub mod BigEndian
 pub mod Choice
 pub mod Lists
+pub mod Tabulate

@@ -1,0 +1,56 @@
+-- Multiplication in the field is additive, and its results are bytes.
+-- Assumes nothing.
+use mathlib.Core.Path.{_≡_, refl, sym, _∙_, ap}
+use Prim.Native.Nat.{ℕ, zero, suc, _*_, _/_, _%_, _^_, _<_}
+use native.Mathlib.Nat.{mod-lt}
+use native.Mathlib.Omega.{arith}
+use lib.Dec.{lit<}
+use lib.Bits.{xor-lt, xor-shr, xor-mod}
+use Rattle.laws.proofs.Additive.{Additive}
+use Rattle.laws.proofs.Xor.{by-bits, xor-exchange, xor-shl}
+use Rattle.aes128.specs.Field.{_⊕_, _•_, bit, xTimes, plusIf, product}
+
+shifted : (a b : ℕ) → (a ⊕ b) * 2 % 256 ≡ a * 2 % 256 ⊕ b * 2 % 256
+shifted a b = ap (λ n. n % 256) (sym (xor-shl a b 1)) ∙ xor-mod (a * 2) (b * 2) 8
+
+bit-lt : (b i : ℕ) → bit b i < 2
+bit-lt b i = mod-lt (b / 2 ^ i) (lit< tt)
+
+reduced : (a b : ℕ) → bit (a ⊕ b) 7 * 27 ≡ bit a 7 * 27 ⊕ bit b 7 * 27
+reduced a b =
+    rw (xor-shr a b 7, xor-mod (a / 2 ^ 7) (b / 2 ^ 7) 1)
+    (by-bits (λ m n. (m ⊕ n) * 27 ≡ m * 27 ⊕ n * 27) refl refl refl refl (bit a 7) (bit b 7) (bit-lt a 7) (bit-lt b 7))
+
+pub xTimes-add : (a b : ℕ) → xTimes (a ⊕ b) ≡ xTimes a ⊕ xTimes b
+unfolding xTimes
+xTimes-add a b = rw (shifted a b, reduced a b) (xor-exchange (a * 2 % 256) (b * 2 % 256) (bit a 7 * 27) (bit b 7 * 27))
+
+product-add : (n c a b : ℕ) → product n c (a ⊕ b) ≡ product n c a ⊕ product n c b
+unfolding product
+product-add zero c a b = refl
+product-add (suc n) c a b = rw (xTimes-add, product-add n (c / 2) (xTimes a) (xTimes b)) (go (c % 2))
+  where
+    go : (d : ℕ) → plusIf d (a ⊕ b) (product n (c / 2) (xTimes a) ⊕ product n (c / 2) (xTimes b)) ≡ plusIf d a (product n (c / 2) (xTimes a)) ⊕ plusIf d b (product n (c / 2) (xTimes b))
+    go zero = refl
+    go (suc d) = xor-exchange (product n (c / 2) (xTimes a)) (product n (c / 2) (xTimes b)) a b
+
+pub mul-additive : (c : ℕ) → Additive (λ b. c • b)
+unfolding _•_
+mul-additive c = record { adds = product-add 8 c }
+
+pub xTimes-lt : (b : ℕ) → xTimes b < 256
+unfolding xTimes
+xTimes-lt b = xor-lt 8 (b * 2 % 256) (bit b 7 * 27) (mod-lt (b * 2) (lit< tt)) (omega (arith, bit-lt b 7))
+
+product-lt : (n c b : ℕ) → b < 256 → product n c b < 256
+unfolding product
+product-lt zero c b h = lit< tt
+product-lt (suc n) c b h = go (c % 2) (product-lt n (c / 2) (xTimes b) (xTimes-lt b))
+  where
+    go : (d : ℕ) → product n (c / 2) (xTimes b) < 256 → plusIf d b (product n (c / 2) (xTimes b)) < 256
+    go zero k = k
+    go (suc d) k = xor-lt 8 (product n (c / 2) (xTimes b)) b k h
+
+pub mul-lt : (c b : ℕ) → b < 256 → c • b < 256
+unfolding _•_
+mul-lt c b h = product-lt 8 c b h

@@ -1,0 +1,19 @@
+-- {02} is doubling, {03} is that and the byte itself.
+-- Assumes nothing.
+use Rattle.aes128.proofs.Laws.{mixColumns-made}
+use borrow.Author.Needs.{needs}
+use Rattle.aes128.proofs.mix_columns.Statement.{statement}
+use Rattle.aes128.proofs.mix_columns.Tie as tie
+
+returns : tie.Need-returns
+returns c =
+    rw (
+      c .turned-sum .ensures,
+      c .before .xor .ensures,
+      c .before .before .double-all .ensures,
+    )
+    (mixColumns-made (c .before .before .before .args .s))
+
+pub mix-columns-spec : {M : Type 1} → statement M
+mix-columns-spec =
+    tie.close (tie.spec (λ c κs. search needs) (λ c κs. search needs) (λ c κs. search needs) returns)

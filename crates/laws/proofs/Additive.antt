@@ -1,0 +1,30 @@
+-- Functions that keep exclusive or: two of them agree on all numbers of n bits if they agree on the n powers of two.
+-- Assumes nothing.
+use mathlib.Core.Path.{_≡_, sym, _∙_}
+use Prim.Native.Nat.{ℕ, zero, suc, _*_, _/_, _%_, _^_, _<_}
+use native.Mathlib.Nat.{mod-lt, zero-mul, one-mul, add-comm}
+use native.Mathlib.Numerals.{add-one}
+use native.Mathlib.Omega.{arith}
+use lib.Arith.{lt-one}
+use lib.Bits.{bitXor, xor-self, xor-shifted}
+use lib.Pow.{pow-pos, shr-lt, split}
+use Rattle.laws.proofs.Xor.{by-bit}
+
+pub record Additive (f : ℕ → ℕ) : Type 0 where
+  pub adds : (a b : ℕ) → f (bitXor a b) ≡ bitXor (f a) (f b)
+
+pub at-zero : {f : ℕ → ℕ} → Additive f → f 0 ≡ 0
+at-zero {f} p = p .adds 0 0 ∙ xor-self (f 0)
+
+pub agree : {f g : ℕ → ℕ} → Additive f → Additive g → (n : ℕ) → ((k : ℕ) → k < n → f (2 ^ k) ≡ g (2 ^ k)) → (x : ℕ) → x < 2 ^ n → f x ≡ g x
+agree {f} {g} p q zero e x h = rw (lt-one h) (at-zero p ∙ sym (at-zero q))
+agree {f} {g} p q (suc n) e x h =
+    rw (sym whole) (p .adds (x / 2 ^ n * 2 ^ n) (x % 2 ^ n) ∙ rw (top, agree p q n (λ k l. e k (omega arith)) (x % 2 ^ n) (mod-lt x (pow-pos n))) (sym (q .adds (x / 2 ^ n * 2 ^ n) (x % 2 ^ n))))
+  where
+    whole : bitXor (x / 2 ^ n * 2 ^ n) (x % 2 ^ n) ≡ x
+    whole = xor-shifted (x / 2 ^ n) n (x % 2 ^ n) (mod-lt x (pow-pos n)) ∙ split x n
+
+    top : f (x / 2 ^ n * 2 ^ n) ≡ g (x / 2 ^ n * 2 ^ n)
+    top =
+        by-bit (λ b. f (b * 2 ^ n) ≡ g (b * 2 ^ n)) (rw zero-mul (at-zero p ∙ sym (at-zero q)))
+        (rw one-mul (e n (omega arith))) (x / 2 ^ n) (shr-lt 1 n (rw (add-comm 1 n, add-one) h))

@@ -1,0 +1,62 @@
+-- Loops that fill an array place by place: the first i of its n places have what a rule f gives.
+-- Assumes nothing.
+use mathlib.Core.Path.{_≡_, refl, sym, _∙_, ap}
+use mathlib.Core.List.{List, [], _∷_}
+use Prim.Native.Nat.{ℕ, zero, suc, _+_, _<_, _≤_}
+use native.Mathlib.Nat.{le-of-suc-le-suc, not-suc-le-zero}
+use native.Mathlib.Omega.{arith}
+use borrow.Author.Count.{below-more}
+use lib.ListN.{length, getD, set, length-set}
+use lib.Seq.{ext-getD, getD-set-same, getD-set-other}
+use Rattle.laws.specs.Tabulate.{tabulate}
+
+pub length-tabulate : {A : Type 0} (n : ℕ) (f : ℕ → A) → length (tabulate n f) ≡ n
+length-tabulate zero f = refl
+length-tabulate (suc n) f = ap suc (length-tabulate n (λ k. f (suc k)))
+
+pub getD-tabulate : {A : Type 0} (n : ℕ) (f : ℕ → A) (i : ℕ) (d : A) → i < n → getD (tabulate n f) i d ≡ f i
+getD-tabulate zero f i d h = absurd (not-suc-le-zero h)
+getD-tabulate (suc n) f zero d h = refl
+getD-tabulate (suc n) f (suc i) d h = getD-tabulate n (λ k. f (suc k)) i d (le-of-suc-le-suc h)
+
+pub tabulate-ext : {A : Type 0} (n : ℕ) (f g : ℕ → A) → ((i : ℕ) → i < n → f i ≡ g i) → tabulate n f ≡ tabulate n g
+tabulate-ext zero f g e = refl
+tabulate-ext (suc n) f g e =
+    ap (λ x. x ∷ tabulate n (λ k. f (suc k))) (e zero (omega arith))
+    ∙ ap (λ l. g zero ∷ l) (tabulate-ext n (λ k. f (suc k)) (λ k. g (suc k)) (λ i h. e (suc i) (omega arith)))
+
+pub tabulate-getD : {A : Type 0} (l : List A) (d : A) → tabulate (length l) (λ i. getD l i d) ≡ l
+tabulate-getD [] d = refl
+tabulate-getD (x ∷ l) d = ap (λ t. x ∷ t) (tabulate-getD l d)
+
+-- what holds of each value, and of the value past the end, holds at every place
+pub tabulate-all : {A : Type 0} (P : A → Type 0) (n : ℕ) (f : ℕ → A) (d : A) → P d → ((i : ℕ) → P (f i)) → (i : ℕ) → P (getD (tabulate n f) i d)
+tabulate-all P zero f d p q i = p
+tabulate-all P (suc n) f d p q zero = q zero
+tabulate-all P (suc n) f d p q (suc i) = tabulate-all P n (λ k. f (suc k)) d p (λ k. q (suc k)) i
+
+pub record Filled {A : Type 0} (d : A) (n : ℕ) (f : ℕ → A) (i : ℕ) (l : List A) : Type 0 where
+  pub long : length l ≡ n
+  pub within : i ≤ n
+  pub done : (k : ℕ) → k < i → getD l k d ≡ f k
+
+pub none : {A : Type 0} {d : A} {n : ℕ} {f : ℕ → A} {l : List A} → length l ≡ n → Filled d n f 0 l
+none e = record { long = e; within = omega arith; done = λ k h. absurd (not-suc-le-zero h) }
+
+-- one more place
+pub more : {A : Type 0} {d : A} {n : ℕ} {f : ℕ → A} {i : ℕ} {l : List A} {v : A}
+    → Filled d n f i l → i < n → v ≡ f i → Filled d n f (i + 1) (set l i v)
+more {d = d} {f = f} {i = i} {l = l} {v = v} p h e =
+    record {
+      long = length-set l i v ∙ p .long;
+      within = omega arith;
+      done = below-more (λ k. getD (set l i v) k d ≡ f k) i
+          (λ k lt. getD-set-other l i k v d (λ q. omega arith) ∙ p .done k lt)
+          (getD-set-same l i v d (omega (arith, p .long)) ∙ e);
+    }
+
+-- all places
+pub whole : {A : Type 0} {d : A} {n : ℕ} {f : ℕ → A} {i : ℕ} {l : List A} → Filled d n f i l → n ≤ i → l ≡ tabulate n f
+whole {d = d} {n = n} {f = f} {l = l} p h =
+    ext-getD d l (tabulate n f) (p .long ∙ sym (length-tabulate n f))
+    (λ k hk. p .done k (omega (arith, p .long)) ∙ sym (getD-tabulate n f k d (omega (arith, p .long))))
