@@ -93,7 +93,7 @@ regroup true false true false b n = refl
 regroup true false false o b n = refl
 
 -- the last key is checked against those before it
-owned-snoc : (l : List AccountKey) (k : AccountKey)
+pub owned-snoc : (l : List AccountKey) (k : AccountKey)
     → owned (l ++ (k ∷ [])) ≡ (owned l and (eqb (getD (k .bytes) 0 0) 0x04 and not (member l k)))
 unfolding owned
 owned-snoc [] k = refl

@@ -7,7 +7,7 @@ use native.Mathlib.Nat.{le-refl, sub-zero, zero-sub, suc-sub-suc, le-of-suc-le-s
 use native.Mathlib.Numerals.{add-one}
 use native.Mathlib.Omega.{arith}
 use lib.ListN.{length, take, drop, set, getD, replicate, length-drop, length-take, drop-of-length-le}
-use lib.Seq.{take-at, drop-append-add, length-take-le, getD-take, take-suc, drop-cons, getD-drop, take-suc-set, take-all, paste, paste-suc}
+use lib.Seq.{set-getD, take-at, drop-append-add, length-take-le, getD-take, take-suc, drop-cons, getD-drop, take-suc-set, take-all, paste, paste-suc}
 
 -- a turn of a loop that fills a list from the front
 pub take-more {ℓ} : {A : Type ℓ} (l : List A) (i : ℕ) (a : A) → i < length l → take (i + 1) (set l i a)
@@ -76,3 +76,9 @@ front4 (w ∷ x ∷ []) a b c d h = absurd (not-suc-le-zero (le-of-suc-le-suc (l
 front4 (w ∷ x ∷ y ∷ []) a b c d h =
     absurd (not-suc-le-zero (le-of-suc-le-suc (le-of-suc-le-suc (le-of-suc-le-suc h))))
 front4 (w ∷ x ∷ y ∷ z ∷ l) a b c d h = refl
+
+pub split4 {ℓ} : {A : Type ℓ} (l : List A) (z : A) → 4 ≤ length l
+    → l ≡ getD l 0 z ∷ getD l 1 z ∷ getD l 2 z ∷ getD l 3 z ∷ drop 4 l
+split4 l z h =
+    let e = front4 l (getD l 0 z) (getD l 1 z) (getD l 2 z) (getD l 3 z) h in
+    rw (set-getD l 0 z, set-getD l 1 z, set-getD l 2 z, set-getD l 3 z) at e

@@ -4,10 +4,10 @@ use mathlib.Core.Path.{_≡_, refl, sym, _∙_, ap}
 use Prim.Native.Nat.{ℕ, zero, suc, _*_, _/_, _%_, _^_, _<_}
 use native.Mathlib.Nat.{mod-lt, add-zero}
 use native.Mathlib.Omega.{arith}
-use lib.Pow.{pow-pos}
 use lib.Arith.{bin-ind}
-use lib.Dec.{lit<}
 use lib.Bits.{bitXor, differ, xor-step, xor-shr, xor-mod, xor-comm, xor-self, xor-zero-r, xor-block}
+use lib.Dec.{lit<}
+use lib.Pow.{pow-pos}
 
 -- what holds of 0 and of 1 holds of a bit
 pub by-bit : (P : ℕ → Type 0) → P 0 → P 1 → (n : ℕ) → n < 2 → P n
@@ -29,7 +29,15 @@ xor-assoc a =
     bin-ind (λ (n : ℕ). (b c : ℕ) → bitXor (bitXor n b) c ≡ bitXor n (bitXor b c)) (λ b c. refl)
     (λ n ih b c.
     xor-step (bitXor n b) c
-    ∙ rw (xor-shr n b 1, xor-mod n b 1, ih (b / 2) (c / 2), bits (n % 2) (b % 2) (c % 2) (mod-lt n (lit< tt)) (mod-lt b (lit< tt)) (mod-lt c (lit< tt)), ← xor-shr b c 1, ← xor-mod b c 1)
+    ∙ rw (
+      xor-shr n b 1,
+      xor-mod n b 1,
+      ih (b / 2) (c / 2),
+      bits (n % 2) (b % 2) (c % 2) (mod-lt n (lit< tt))
+          (mod-lt b (lit< tt)) (mod-lt c (lit< tt)),
+      ← xor-shr b c 1,
+      ← xor-mod b c 1,
+    )
     (sym (xor-step n (bitXor b c)))) a
 
 pub xor-exchange : (a b c d : ℕ) → bitXor (bitXor a b) (bitXor c d) ≡ bitXor (bitXor a c) (bitXor b d)
