@@ -29,16 +29,11 @@ xor-assoc a =
     bin-ind (λ (n : ℕ). (b c : ℕ) → bitXor (bitXor n b) c ≡ bitXor n (bitXor b c)) (λ b c. refl)
     (λ n ih b c.
     xor-step (bitXor n b) c
-    ∙ rw (
-      xor-shr n b 1,
-      xor-mod n b 1,
-      ih (b / 2) (c / 2),
-      bits (n % 2) (b % 2) (c % 2) (mod-lt n (lit< tt))
-          (mod-lt b (lit< tt)) (mod-lt c (lit< tt)),
-      ← xor-shr b c 1,
-      ← xor-mod b c 1,
-    )
+    ∙ rw (xor-shr n b 1, xor-mod n b 1, ih (b / 2) (c / 2), low n b c, ← xor-shr b c 1, ← xor-mod b c 1)
     (sym (xor-step n (bitXor b c)))) a
+  where
+    low : (a b c : ℕ) → differ (bitXor (a % 2) (b % 2)) (c % 2) ≡ differ (a % 2) (bitXor (b % 2) (c % 2))
+    low a b c = bits (a % 2) (b % 2) (c % 2) (mod-lt a (lit< tt)) (mod-lt b (lit< tt)) (mod-lt c (lit< tt))
 
 pub xor-exchange : (a b c d : ℕ) → bitXor (bitXor a b) (bitXor c d) ≡ bitXor (bitXor a c) (bitXor b d)
 xor-exchange a b c d =
