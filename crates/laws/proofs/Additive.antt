@@ -20,8 +20,11 @@ pub agree : {f g : ℕ → ℕ} → Additive f → Additive g
     → (n : ℕ) → ((k : ℕ) → k < n → f (2 ^ k) ≡ g (2 ^ k)) → (x : ℕ) → x < 2 ^ n → f x ≡ g x
 agree p q zero e x h = rw (lt-one h) (at-zero p ∙ sym (at-zero q))
 agree {f} {g} p q (suc n) e x h =
-    rw (sym whole) (p .adds high low ∙ rw (top, agree p q n (λ k l. e k (omega arith)) low
-     (mod-lt x (pow-pos n))) (sym (q .adds high low)))
+    rw (sym whole) (p .adds high low ∙ rw (
+      top,
+      agree p q n (λ k l. e k (omega arith)) low
+          (mod-lt x (pow-pos n)),
+    ) (sym (q .adds high low)))
   where
     high : ℕ
     high = x / 2 ^ n * 2 ^ n
