@@ -10,12 +10,12 @@ use lib.Dec.{leb, eqb}
 use lib.ListN.{length, take, drop, getD, length-drop}
 use lib.Seq.{take-all, take-suc, take-length, take-at, drop-append-add, drop-drop, take-add, length-take-le}
 use borrow.Author.Tests.{leb-true, eqb-true}
-use Rattle.laws.proofs.All.{all-get, all-take, all-drop, all-append}
+use Rattle.laws.proofs.All.{all-get, all-append}
 use Rattle.laws.proofs.Choice.{and-left, and-right}
 use Rattle.laws.proofs.Lists.{split4}
 use Rattle.laws.specs.BigEndian.{number2}
 use Rattle.laws.specs.Lists.{All}
-use Rattle.account_keys.specs.Keys.{Sized, limit, held, kept, owned}
+use Rattle.account_keys.specs.Keys.{Valid, Sized, limit, held, kept, owned}
 use Rattle.account_keys.specs.Promises.{ReadsBack, OnlyWritings}
 use Rattle.account_keys.specs.StoredList.{formNumber, keyAt, keysIn, keyBytes, wellSized, writing, reading, readingOf}
 use Rattle.account_keys.specs.declared.AccountKey.{AccountKey}
@@ -32,9 +32,9 @@ bytes-at : (l : List AccountKey) → All Sized l → (i : ℕ) → i < length l
     → sixteenAt (16 * i) (keyBytes l) ≡ getD l i nowhere .bytes
 unfolding keyBytes
 bytes-at [] p i h = absurd (not-suc-le-zero h)
-bytes-at (k ∷ ks) p zero h = take-at (k .bytes) (keyBytes ks) 16 (p .0 .0)
+bytes-at (k ∷ ks) p zero h = take-at (k .bytes) (keyBytes ks) 16 (p .0)
 bytes-at (k ∷ ks) p (suc i) h =
-    let at : 16 * suc i ≡ length (k .bytes) + 16 * i = omega (arith, p .0 .0) in
+    let at : 16 * suc i ≡ length (k .bytes) + 16 * i = omega (arith, p .0) in
     rw (at, drop-append-add (k .bytes) (keyBytes ks) (16 * i)) (bytes-at ks (p .1) i (le-of-suc-le-suc h))
 
 key-written : (l : List AccountKey) → All Sized l → (i : ℕ) → i < length l → keyAt (writing l) i
@@ -78,17 +78,13 @@ keys-bytes b (suc n) =
     bytes-snoc (keysIn b n) (keyAt b n)
     ∙ rw (keys-bytes b n, more, take-add (16 * n) 16 (drop 4 b), drop-drop (16 * n) 4 b)
 
-keys-sized : (b : List ℕ) → All (λ x. x < 256) b → (n : ℕ) → 4 + 16 * n ≤ length b → All Sized (keysIn b n)
+keys-sized : (b : List ℕ) (n : ℕ) → 4 + 16 * n ≤ length b → All Sized (keysIn b n)
 unfolding keysIn
-keys-sized b p zero h = tt
-keys-sized b p (suc n) h =
+keys-sized b zero h = tt
+keys-sized b (suc n) h =
     let inside : 16 ≤ length (drop (4 + 16 * n) b) = simp length-drop (omega arith) in
-    let key : Sized (keyAt b n) = (
-      length-take-le 16 (drop (4 + 16 * n) b) inside,
-      all-take (λ x. x < 256) 16 (drop (4 + 16 * n) b) (all-drop (λ x. x < 256) (4 + 16 * n) b p),
-    )
-    in
-    all-append Sized (keysIn b n) (keyAt b n ∷ []) (keys-sized b p n (omega arith)) (key, tt)
+    let key : Sized (keyAt b n) = length-take-le 16 (drop (4 + 16 * n) b) inside in
+    all-append Sized (keysIn b n) (keyAt b n ∷ []) (keys-sized b n (omega arith)) (key, tt)
 
 -- the header says what it must
 header : (b : List ℕ) → All (λ x. x < 256) b → 4 ≤ length b → number2 (getD b 0 0) (getD b 1 0) ≡ length b - 2
@@ -158,14 +154,27 @@ both-passed b f = go (wellSized b) (owned (keysIn b (getD b 3 0))) refl refl
         (keysIn b (getD b 3 0)) q) ∙ f))
     go false o p q = absurd (differ (sym (reads-not b p) ∙ f))
 
+-- what a list that reads gives
+module _ (b : List ℕ) (f : reading b .form ≡ WellFormed) where
+  tests : (wellSized b ≡ true) × (owned (keysIn b (getD b 3 0)) ≡ true)
+  tests = both-passed b f
+
+  sizes : Passed b
+  sizes = passed b (tests .0)
+
+  keys-are : reading b .keys ≡ kept (keysIn b (getD b 3 0))
+  keys-are = ap (λ (x : Reading). x .keys) (reads-as b (tests .0) ∙ accepted (keysIn b (getD b 3 0)) (tests .1))
+
+  pub reads-valid : Valid (reading b .keys)
+  reads-valid =
+      let few : length (keysIn b (getD b 3 0)) ≤ limit = omega (arith, keys-long b (getD b 3 0), sizes .few) in
+      rw keys-are
+      (kept-valid (keysIn b (getD b 3 0)) few (keys-sized b (getD b 3 0) (omega (arith, sizes .whole))) (tests .1))
+
+  reads-whole : All (λ x. x < 256) b → writing (held (reading b .keys)) ≡ b
+  reads-whole p =
+      rw (keys-are, held-kept (keysIn b (getD b 3 0)))
+      (header b p (sizes .enough) (sizes .sizes) (sizes .version) (sizes .whole))
+
 pub only-writings : OnlyWritings
-only-writings b p f =
-    let t = both-passed b f in
-    let r : Passed b = passed b (t .0) in
-    let n : ℕ = getD b 3 0 in
-    let l : List AccountKey = keysIn b n in
-    let e : reading b .keys ≡ kept l = ap (λ (x : Reading). x .keys) (reads-as b (t .0) ∙ accepted l (t .1)) in
-    let few : length l ≤ limit = omega (arith, keys-long b n, r .few) in (
-      rw e (kept-valid l few (keys-sized b p n (omega (arith, r .whole))) (t .1)),
-      rw (e, held-kept l) (header b p (r .enough) (r .sizes) (r .version) (r .whole)),
-    )
+only-writings b p f = (reads-valid b f, reads-whole b f p)

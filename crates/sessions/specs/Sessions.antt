@@ -34,6 +34,15 @@ sessionAt ss l = getD (ss .links) l nowhere
 abbrev pub withSession : Sessions → ℕ → Session → Sessions
 withSession ss l s = record { links = set (ss .links) l s }
 
+-- stages by number, to compare them
+abbrev pub stageNumber : Stage → ℕ
+stageNumber Idle = 0
+stageNumber Asked = 1
+stageNumber Pairing = 2
+stageNumber Confirming = 3
+stageNumber Proved = 4
+stageNumber Paired = 5
+
 -- "Pairing and proved have no timer."
 abbrev pub hasTimer : Stage → Bool
 hasTimer Idle = false
