@@ -10,6 +10,7 @@ use Rattle.account_keys.specs.Keys.{kept}
 use Rattle.account_keys.specs.StoredList.{reading}
 use Rattle.account_keys.specs.declared.ListForm.{ListForm}
 use Rattle.account_keys.specs.declared.ListForm.the-variants.{WellFormed, Malformed}
+use Rattle.account_keys.specs.declared.AccountKeys.{AccountKeys}
 use Rattle.account_keys.specs.declared.Reading.{Reading}
 use Rattle.basics.specs.declared.Address.{Address}
 use Rattle.provider.specs.Device.{Effect, answers, takes, inTime, dropAll, dropAt, withGuard, withKeys, withBeacon}
@@ -49,11 +50,11 @@ unfoldable pub factoryReset : Device → ℕ → Effect
 factoryReset d t = inTime d t [] (λ e. takes (withKeys (withGuard (dropAll e) fresh) (kept [])))
 
 -- "Starts from a stored list, addresses, model ID and salt. All links idle, count 0, no spent salts, pairing mode off, clock 0."
-abbrev pub started : Reading → Start → Device
-started r s =
+abbrev pub started : AccountKeys → Start → Device
+started ks s =
     record {
       clock = record { 0 = 0 };
-      keys = r .keys;
+      keys = ks;
       sessions = allIdle;
       guard = fresh;
       identity = s .identity;
@@ -68,7 +69,7 @@ byForm Malformed x y = y
 -- "Power-on knows only 0 and 14."
 unfoldable pub powerOn : Device → List ℕ → Start → Effect
 powerOn d stored s =
-    byForm (reading stored .form) (takes (started (reading stored) s)) (answers d ListMalformed [])
+    byForm (reading stored .form) (takes (started (reading stored .keys) s)) (answers d ListMalformed [])
 
 -- the value before any device
 abbrev pub noAddress : Address
