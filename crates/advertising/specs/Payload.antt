@@ -32,5 +32,5 @@ serviceData pairing model keys salt prompt =
 abbrev pub structure : List ℕ → List ℕ
 structure sent = (3 + length sent) ∷ 0x16 ∷ 0x2C ∷ 0xFE ∷ sent
 
-unfoldable pub payloadOf : Bool → List ℕ → List AccountKey → List ℕ → Prompt → List ℕ
-payloadOf pairing model keys salt prompt = structure (serviceData pairing model keys salt prompt)
+unfoldable pub payload : Bool → List ℕ → List AccountKey → List ℕ → Prompt → List ℕ
+payload pairing model keys salt prompt = structure (serviceData pairing model keys salt prompt)

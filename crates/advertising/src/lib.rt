@@ -1,6 +1,5 @@
 // The advertising payload and its account key filter: document 01, "Advertising".
 use account_keys::AccountKeys;
-use basics::Output;
 use basics::Report;
 ghost use mathlib.Core.Path.{_≡_};
 ghost use mathlib.Core.Bool.{true, false};
@@ -11,7 +10,7 @@ ghost use Rattle.basics.specs.Output.{reportOf, placed};
 ghost use Rattle.sha256.specs.Hash.{sha256};
 ghost use Rattle.account_keys.specs.Keys.{Kept, limit, held};
 ghost use Rattle.advertising.specs.Filter.{filterSize, numberAt, withNumber, numbers, filter};
-ghost use Rattle.advertising.specs.Payload.{promptType, keysData, structure, payloadOf};
+ghost use Rattle.advertising.specs.Payload as spec;
 
 // Whether a phone that finds its key shows the prompt.
 pub enum Prompt {
@@ -29,8 +28,8 @@ pub fn payload(
     out: &mut [u8],
 ) -> Report
     requires { ⌜ Kept keys ⌝ }
-    ensures { λ r. ⌜ r ≡ reportOf (payloadOf pairing model (held keys) salt prompt) (now (out .entry)) ⌝ }
-    ensures { λ r. ⌜ now (out .exit) ≡ placed (payloadOf pairing model (held keys) salt prompt) (now (out .entry)) ⌝ }
+    ensures { λ r. ⌜ r ≡ reportOf (spec.payload pairing model (held keys) salt prompt) (now (out .entry)) ⌝ }
+    ensures { λ r. ⌜ now (out .exit) ≡ placed (spec.payload pairing model (held keys) salt prompt) (now (out .entry)) ⌝ }
 {
     if pairing {
         return model_payload(model, out);
@@ -44,44 +43,44 @@ pub fn payload(
 
 // In pairing mode: the model ID.
 fn model_payload(model: [u8; 3], out: &mut [u8]) -> Report
-    ensures { λ r. ⌜ r ≡ reportOf (structure model) (now (out .entry)) ⌝ }
-    ensures { λ r. ⌜ now (out .exit) ≡ placed (structure model) (now (out .entry)) ⌝ }
+    ensures { λ r. ⌜ r ≡ reportOf (spec.structure model) (now (out .entry)) ⌝ }
+    ensures { λ r. ⌜ now (out .exit) ≡ placed (spec.structure model) (now (out .entry)) ⌝ }
 {
     if out.len() < 7 {
-        return too_short();
+        return basics::too_short();
     }
     begin(out, 6);
     out[4] = model[0];
     out[5] = model[1];
     out[6] = model[2];
-    written(7)
+    basics::written(7)
 }
 
 // With no key: an empty filter.
 fn empty_payload(out: &mut [u8]) -> Report
-    ensures { λ r. ⌜ r ≡ reportOf (structure (0x00 ∷ 0x00 ∷ [])) (now (out .entry)) ⌝ }
-    ensures { λ r. ⌜ now (out .exit) ≡ placed (structure (0x00 ∷ 0x00 ∷ [])) (now (out .entry)) ⌝ }
+    ensures { λ r. ⌜ r ≡ reportOf (spec.structure (0x00 ∷ 0x00 ∷ [])) (now (out .entry)) ⌝ }
+    ensures { λ r. ⌜ now (out .exit) ≡ placed (spec.structure (0x00 ∷ 0x00 ∷ [])) (now (out .entry)) ⌝ }
 {
     if out.len() < 6 {
-        return too_short();
+        return basics::too_short();
     }
     begin(out, 5);
     out[4] = 0x00;
     out[5] = 0x00;
-    written(6)
+    basics::written(6)
 }
 
 // With keys: their filter, built in its place, and the salt.
 fn keys_payload(keys: AccountKeys, salt: [u8; 2], prompt: Prompt, out: &mut [u8]) -> Report
     requires { ⌜ Kept keys ⌝ }
-    ensures { λ r. ⌜ r ≡ reportOf (structure (keysData (held keys) salt prompt)) (now (out .entry)) ⌝ }
-    ensures { λ r. ⌜ now (out .exit) ≡ placed (structure (keysData (held keys) salt prompt)) (now (out .entry)) ⌝ }
+    ensures { λ r. ⌜ r ≡ reportOf (spec.structure (spec.keysData (held keys) salt prompt)) (now (out .entry)) ⌝ }
+    ensures { λ r. ⌜ now (out .exit) ≡ placed (spec.structure (spec.keysData (held keys) salt prompt)) (now (out .entry)) ⌝ }
 {
     let n = keys.count;
     let s = filter_size(n);
     let e = 6 + s;
     if out.len() < e + 3 {
-        return too_short();
+        return basics::too_short();
     }
     begin(out, (s + 8) as u8);
     out[4] = 0x00;
@@ -90,25 +89,7 @@ fn keys_payload(keys: AccountKeys, salt: [u8; 2], prompt: Prompt, out: &mut [u8]
     out[e] = 0x21;
     out[e + 1] = salt[0];
     out[e + 2] = salt[1];
-    written(e + 3)
-}
-
-fn too_short() -> Report
-    ensures { λ r. ⌜ r ≡ record { output = Output.TooShort; length = 0 } ⌝ }
-{
-    Report {
-        output: Output::TooShort,
-        length: 0,
-    }
-}
-
-fn written(length: usize) -> Report
-    ensures { λ r. ⌜ r ≡ record { output = Output.Written; length = length } ⌝ }
-{
-    Report {
-        output: Output::Written,
-        length: length,
-    }
+    basics::written(e + 3)
 }
 
 // The four bytes before the service data; `rest` counts what follows the first.
@@ -123,7 +104,7 @@ fn begin(out: &mut [u8], rest: u8)
 }
 
 fn prompt_type(prompt: Prompt) -> u8
-    ensures { λ r. ⌜ r ≡ promptType prompt ⌝ }
+    ensures { λ r. ⌜ r ≡ spec.promptType prompt ⌝ }
 {
     match prompt {
         Prompt::Show => 0,
@@ -199,7 +180,7 @@ fn number_at(hash: [u8; 32], i: usize) -> usize
 }
 
 fn wide(x: u8) -> usize
-    ensures { λ r. ⌜ r ≡ x ⌝ }
+    ensures { λ r. ⌜ (r ≡ x) × (r < 256) ⌝ }
 {
     x as usize
 }
