@@ -13,7 +13,7 @@ use lib.Pow.{pow-lt}
 use lib.Seq.{take-suc, take-all, getD-take, length-take-le, sets, sets-eq, take-at, drop-at, paste}
 use Rattle.laws.proofs.Filled.{length-tabulate, getD-tabulate, listed}
 use Rattle.laws.proofs.Lists.{take-more}
-use Rattle.laws.proofs.Growing.{stored-on, lent-on}
+use Rattle.laws.proofs.Folds.{fold-more, fold-keeps}
 use Rattle.basics.proofs.Lent.{refused, whole}
 use Rattle.basics.specs.Output.{reportOf, placed, written}
 use Rattle.basics.specs.declared.Report.{Report}
@@ -24,11 +24,6 @@ use Rattle.account_keys.specs.declared.AccountKeys.{AccountKeys}
 use Rattle.account_keys.specs.Keys.{Kept, held}
 use Rattle.account_keys.proofs.Laws.{nowhere, all-held, count-held}
 use Rattle.advertising.specs.Filter.{filterSize, numberAt, numbers, withBit, placeOf, byteOf, bitOf, withNumber, withKey, filter}
-
--- one element more of what a fold goes over
-fold-more : {A B : Type 0} (f : B → A → B) (b : B) (l : List A) (i : ℕ) (d : A) → i < length l
-    → foldl f b (take (i + 1) l) ≡ f (foldl f b (take i l)) (getD l i d)
-fold-more f b l i d h = rw (add-one, take-suc l i d h, foldl-append f b (take i l) (getD l i d ∷ []))
 
 -- a turn of the loop that clears
 pub clear-more : (l : List ℕ) (i : ℕ) → i < length l → take i l ≡ replicate i 0
@@ -90,23 +85,18 @@ keys-all ks v salt =
 
 -- ---- sizes
 
-fold-keeps : {A B : Type 0} (P : B → Type 0) (f : B → A → B) → ((b : B) (a : A) → P b → P (f b a)) → (b : B) (l : List A)
-    → P b → P (foldl f b l)
-fold-keeps P f k b [] p = p
-fold-keeps P f k b (a ∷ l) p = fold-keeps P f k (f b a) l (k b a p)
-
 -- a bit that is set changes no length
-number-long : (s n : ℕ) (f : List ℕ) (x : ℕ) → length f ≡ n → length (withNumber s f x) ≡ n
+pub number-long : (s n : ℕ) (f : List ℕ) (x : ℕ) → length f ≡ n → length (withNumber s f x) ≡ n
 unfolding withBit
 number-long s n f x e = length-set f (byteOf (placeOf s x)) (bitOr (getD f (byteOf (placeOf s x)) 0) (2 ^ bitOf (placeOf s x))) ∙ e
 
-key-long : (s n : ℕ) (salt f : List ℕ) (k : AccountKey) → length f ≡ n → length (withKey s salt f k) ≡ n
+pub key-long : (s n : ℕ) (salt f : List ℕ) (k : AccountKey) → length f ≡ n → length (withKey s salt f k) ≡ n
 unfolding withKey
 key-long s n salt f k e =
-    fold-keeps (λ g. length g ≡ n) (withNumber s) (number-long s n) f (numbers (sha256 (k .bytes ++ salt))) e
+    fold-keeps (withNumber s) (λ g. length g ≡ n) (number-long s n) f (numbers (sha256 (k .bytes ++ salt))) e
 
 pub filter-long : (keys : List AccountKey) (salt : List ℕ) → length (filter keys salt) ≡ filterSize (length keys)
 unfolding filter
 filter-long keys salt =
     let s : ℕ = filterSize (length keys) in
-    fold-keeps (λ g. length g ≡ s) (withKey s salt) (λ f k. key-long s s salt f k) (replicate s 0) keys (length-replicate s 0)
+    fold-keeps (withKey s salt) (λ g. length g ≡ s) (λ f k. key-long s s salt f k) (replicate s 0) keys (length-replicate s 0)

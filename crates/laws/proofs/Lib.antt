@@ -4,6 +4,7 @@ pub mod BigEndian
 pub mod Bitwise
 pub mod Choice
 pub mod Filled
+pub mod Folds
 pub mod Growing
 pub mod Lists
 pub mod Loops

@@ -1,9 +1,11 @@
 -- Laws of or that the prover's library lacks: its order is free, and a bit that is set stays set.
 -- Assumes nothing.
+use mathlib.Core.List.{List, [], _∷_}
 use mathlib.Core.Path.{_≡_, refl, sym, _∙_, ap}
-use Prim.Native.Nat.{ℕ, _/_, _%_, _^_, max}
+use Prim.Native.Nat.{ℕ, zero, suc, _/_, _%_, _^_, max}
 use native.Mathlib.Nat.{mod-lt, div-self}
 use lib.Dec.{lit<}
+use lib.ListN.{getD, set}
 use lib.Pow.{pow-pos}
 use lib.Bits.{bitOr, or-step, or-shr, or-mod, or-comm}
 use Rattle.laws.proofs.Bitwise.{by-bit, by-bits, by-three, bitwise-assoc}
@@ -35,3 +37,20 @@ pub or-sets : (a k : ℕ) → bit (bitOr a (2 ^ k)) k ≡ 1
 or-sets a k =
     or-bit a (2 ^ k) k
     ∙ rw (div-self (pow-pos k)) (by-bit (λ n. bitOr n 1 ≡ 1) refl refl (bit a k) (mod-lt (a / 2 ^ k) (lit< tt)))
+
+-- the same in a list of numbers: v is joined to the one at i
+pub or-keeps-at : (l : List ℕ) (i j v k : ℕ) → bit (getD l j 0) k ≡ 1 → bit (getD (set l i (bitOr (getD l i 0) v)) j 0) k ≡ 1
+or-keeps-at [] i j v k h = h
+or-keeps-at (x ∷ xs) zero zero v k h = or-keeps x v k h
+or-keeps-at (x ∷ xs) zero (suc j) v k h = h
+or-keeps-at (x ∷ xs) (suc i) zero v k h = h
+or-keeps-at (x ∷ xs) (suc i) (suc j) v k h = or-keeps-at xs i j v k h
+
+pub or-order-at : (l : List ℕ) (i j v w : ℕ)
+    → set (set l i (bitOr (getD l i 0) v)) j (bitOr (getD (set l i (bitOr (getD l i 0) v)) j 0) w)
+    ≡ set (set l j (bitOr (getD l j 0) w)) i (bitOr (getD (set l j (bitOr (getD l j 0) w)) i 0) v)
+or-order-at [] i j v w = refl
+or-order-at (x ∷ xs) zero zero v w = ap (λ (y : ℕ). y ∷ xs) (or-order x v w)
+or-order-at (x ∷ xs) zero (suc j) v w = refl
+or-order-at (x ∷ xs) (suc i) zero v w = refl
+or-order-at (x ∷ xs) (suc i) (suc j) v w = ap (λ (l : List ℕ). x ∷ l) (or-order-at xs i j v w)
