@@ -11,10 +11,10 @@ use Rattle.laws.proofs.All.{all-map}
 use Rattle.laws.proofs.Folds.{fold-keeps, fold-all, fold-fold, fold-order, permuted-long}
 use Rattle.laws.proofs.Or.{or-sets, or-keeps-at, or-order-at}
 use Rattle.laws.specs.Lists.{All}
-use Rattle.sha256.specs.Hash.{sha256}
 use Rattle.account_keys.specs.declared.AccountKey.{AccountKey}
 use Rattle.advertising.specs.Filter.{filterSize, numbers, placeOf, byteOf, bitOf, withBit, withNumber, withKey, filter}
 use Rattle.advertising.specs.Promises.{HasBit, EveryKeyIsFound, OrderIsFree}
+use Rattle.sha256.specs.Hash.{sha256}
 use Rattle.advertising.proofs.Laws.{place-within, number-long, key-long, filter-long}
 
 -- ---- every key is found
@@ -24,7 +24,8 @@ module _ (s : ℕ) (some : 0 < s) where
   own-bit : (f : List ℕ) (x : ℕ) → length f ≡ s → HasBit (withNumber s f x) (placeOf s x)
   unfolding withBit
   own-bit f x e =
-      rw (getD-set-same f (byteOf (placeOf s x)) (bitOr (getD f (byteOf (placeOf s x)) 0) (2 ^ bitOf (placeOf s x))) 0 (rw e (place-within x s some)))
+      rw (getD-set-same f (byteOf (placeOf s x)) (bitOr (getD f (byteOf (placeOf s x)) 0)
+      (2 ^ bitOf (placeOf s x))) 0 (rw e (place-within x s some)))
       (or-sets (getD f (byteOf (placeOf s x)) 0) (bitOf (placeOf s x)))
 
   -- a bit that is set stays set
@@ -47,7 +48,8 @@ module _ (s : ℕ) (some : 0 < s) where
     unfolding withKey
     key-keeps f k other h =
         all-map (λ x. HasBit f (placeOf s x)) (λ x. HasBit (withKey s salt f other) (placeOf s x))
-        (λ x p. fold-keeps (withNumber s) (λ g. HasBit g (placeOf s x)) (λ g y. number-keeps g (placeOf s x) y) f
+        (λ x p. fold-keeps (withNumber s) (λ g. HasBit g (placeOf s x))
+        (λ g y. number-keeps g (placeOf s x) y) f
         (numbers (sha256 (other .bytes ++ salt))) p) (numbers (sha256 (k .bytes ++ salt))) h
 
 enough : (n : ℕ) → 0 < filterSize n
@@ -64,20 +66,25 @@ found-in keys salt =
 
 pub every-key-is-found : EveryKeyIsFound
 every-key-is-found keys salt =
-    subst (λ (s : ℕ). All (λ k. All (λ x. HasBit (filter keys salt) (placeOf s x)) (numbers (sha256 (k .bytes ++ salt)))) keys)
+    subst (λ (s : ℕ). All (λ k. All (λ x. HasBit (filter keys salt) (placeOf s x))
+    (numbers (sha256 (k .bytes ++ salt)))) keys)
     (sym (filter-long keys salt)) (found-in keys salt)
 
 -- ---- the order is free
 
-numbers-exchange : (s : ℕ) (f : List ℕ) (x y : ℕ) → withNumber s (withNumber s f x) y ≡ withNumber s (withNumber s f y) x
+numbers-exchange : (s : ℕ) (f : List ℕ) (x y : ℕ) → withNumber s (withNumber s f x) y ≡ withNumber s
+    (withNumber s f y) x
 unfolding withBit
 numbers-exchange s f x y =
-    or-order-at f (byteOf (placeOf s x)) (byteOf (placeOf s y)) (2 ^ bitOf (placeOf s x)) (2 ^ bitOf (placeOf s y))
+    or-order-at f (byteOf (placeOf s x)) (byteOf (placeOf s y)) (2 ^ bitOf (placeOf s x))
+    (2 ^ bitOf (placeOf s y))
 
-keys-exchange : (s : ℕ) (salt f : List ℕ) (k l : AccountKey) → withKey s salt (withKey s salt f k) l ≡ withKey s salt (withKey s salt f l) k
+keys-exchange : (s : ℕ) (salt f : List ℕ) (k l : AccountKey) → withKey s salt (withKey s salt f k) l
+    ≡ withKey s salt (withKey s salt f l) k
 unfolding withKey
 keys-exchange s salt f k l =
-    fold-fold (withNumber s) (numbers-exchange s) f (numbers (sha256 (k .bytes ++ salt))) (numbers (sha256 (l .bytes ++ salt)))
+    fold-fold (withNumber s) (numbers-exchange s) f (numbers (sha256 (k .bytes ++ salt)))
+    (numbers (sha256 (l .bytes ++ salt)))
 
 pub order-is-free : OrderIsFree
 unfolding filter

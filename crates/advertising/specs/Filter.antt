@@ -1,13 +1,13 @@
 -- Document 01, "Advertising": the account key filter.
 -- Assumes nothing.
-use mathlib.Core.List.{List, [], _∷_, _++_, foldl}
+use mathlib.Core.List.{List, _++_, foldl}
 use Prim.Native.Nat.{ℕ, _+_, _*_, _/_, _%_, _^_}
 use lib.Bits.{bitOr}
 use lib.ListN.{length, set, getD, replicate}
 use Rattle.laws.specs.BigEndian.{number4}
 use Rattle.laws.specs.Tabulate.{tabulate}
-use Rattle.sha256.specs.Hash.{sha256}
 use Rattle.account_keys.specs.declared.AccountKey.{AccountKey}
+use Rattle.sha256.specs.Hash.{sha256}
 
 -- "s = 6n div 5, plus 3"
 abbrev pub filterSize : ℕ → ℕ

@@ -7,9 +7,9 @@ use lib.Dec.{eqb}
 use lib.ListN.{length}
 use Rattle.laws.specs.Choice.{if_then_else_}
 use Rattle.account_keys.specs.declared.AccountKey.{AccountKey}
+use Rattle.advertising.specs.Filter.{filterSize, filter}
 use Rattle.advertising.specs.declared.Prompt.{Prompt}
 use Rattle.advertising.specs.declared.Prompt.the-variants.{Show, Hide}
-use Rattle.advertising.specs.Filter.{filterSize, filter}
 
 -- "0 to show or 2 to hide the prompt"
 abbrev pub promptType : Prompt → ℕ

@@ -5,9 +5,9 @@ use mathlib.Core.Path.{_≡_}
 use Prim.Native.Nat.{ℕ, _/_, _%_, _^_}
 use lib.ListN.{length, getD}
 use Rattle.laws.specs.Lists.{All}
-use Rattle.sha256.specs.Hash.{sha256}
 use Rattle.account_keys.specs.declared.AccountKey.{AccountKey}
 use Rattle.advertising.specs.Filter.{numbers, placeOf, byteOf, bitOf, filter}
+use Rattle.sha256.specs.Hash.{sha256}
 
 -- "bit M mod 8 of byte M div 8, bit 0 lowest" is one
 abbrev pub HasBit : List ℕ → ℕ → Type 0
@@ -24,4 +24,5 @@ EveryKeyIsFound = (keys : List AccountKey) (salt : List ℕ) → All (Finds (fil
 -- the order of the keys changes no byte: `List·Permᴰ` is the library's "the same elements, in any order"
 abbrev pub OrderIsFree : Type 0
 OrderIsFree =
-    (keys other : List AccountKey) (salt : List ℕ) → List·Permᴰ keys other → filter keys salt ≡ filter other salt
+    (keys other : List AccountKey) (salt : List ℕ) → List·Permᴰ keys other → filter keys salt
+    ≡ filter other salt

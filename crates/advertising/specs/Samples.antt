@@ -5,10 +5,10 @@ use mathlib.Core.List.{List, [], _∷_, map}
 use mathlib.Core.Path.{_≡_}
 use Prim.Native.Nat.{ℕ}
 use Rattle.laws.specs.Choice.{_and_}
-use Rattle.basics.specs.Bytes.{same}
 use Rattle.advertising.specs.Filter.{filterSize, placeOf, byteOf, bitOf}
 use Rattle.advertising.specs.Payload.{payload}
 use Rattle.advertising.specs.declared.Prompt.the-variants.{Show}
+use Rattle.basics.specs.Bytes.{same}
 
 -- byte and bit of a number X in a filter of s bytes
 abbrev pub byteAndBit : ℕ → ℕ → List ℕ

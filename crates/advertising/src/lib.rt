@@ -6,6 +6,7 @@ ghost use mathlib.Core.Bool.{true, false};
 ghost use mathlib.Core.List.{[], _∷_, _++_, foldl};
 ghost use Prim.Native.Nat.{_+_, _*_, _<_, _≤_};
 ghost use lib.ListN.{length, drop, replicate};
+ghost use lib.Seq.{paste};
 ghost use Rattle.basics.specs.Output.{reportOf, placed};
 ghost use Rattle.sha256.specs.Hash.{sha256};
 ghost use Rattle.account_keys.specs.Keys.{Kept, limit, held};
@@ -86,9 +87,7 @@ fn keys_payload(keys: AccountKeys, salt: [u8; 2], prompt: Prompt, out: &mut [u8]
     out[4] = 0x00;
     out[5] = (s * 16) as u8 + prompt_type(prompt);
     build_filter(&mut out[6..e], keys, salt);
-    out[e] = 0x21;
-    out[e + 1] = salt[0];
-    out[e + 2] = salt[1];
+    put_salt(out, e, salt);
     basics::written(e + 3)
 }
 
@@ -175,7 +174,9 @@ fn number_at(hash: [u8; 32], i: usize) -> usize
     ensures { λ r. ⌜ r ≡ numberAt hash i ⌝ }
 {
     let at = 4 * i;
-    wide(hash[at]) * 0x1000000 + wide(hash[at + 1]) * 0x10000 + wide(hash[at + 2]) * 0x100
+    wide(hash[at]) * 0x1000000
+        + wide(hash[at + 1]) * 0x10000
+        + wide(hash[at + 2]) * 0x100
         + wide(hash[at + 3])
 }
 
@@ -183,4 +184,14 @@ fn wide(x: u8) -> usize
     ensures { λ r. ⌜ (r ≡ x) × (r < 256) ⌝ }
 {
     x as usize
+}
+
+// The salt's own header and the salt, behind the filter.
+fn put_salt(out: &mut [u8], at: usize, salt: [u8; 2])
+    requires { ⌜ at + 3 ≤ length (now out) ⌝ }
+    ensures { λ r. ⌜ now (out .exit) ≡ paste (now (out .entry)) at (0x21 ∷ salt) 3 ⌝ }
+{
+    out[at] = 0x21;
+    out[at + 1] = salt[0];
+    out[at + 2] = salt[1];
 }

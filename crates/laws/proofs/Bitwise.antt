@@ -1,6 +1,6 @@
 -- Laws of operations that work bit by bit.
 -- Assumes nothing.
-use mathlib.Core.Path.{_≡_, refl, sym, _∙_}
+use mathlib.Core.Path.{_≡_, sym, _∙_}
 use Prim.Native.Nat.{ℕ, zero, suc, _+_, _*_, _/_, _%_, _<_}
 use native.Mathlib.Nat.{mod-lt}
 use native.Mathlib.Omega.{arith}
@@ -30,5 +30,13 @@ bitwise-assoc op bit step half low none bits a =
     bin-ind (λ (n : ℕ). (b c : ℕ) → op (op n b) c ≡ op n (op b c)) none
     (λ n ih b c.
     step (op n b) c
-    ∙ rw (half n b, low n b, ih (b / 2) (c / 2), bits (n % 2) (b % 2) (c % 2) (mod-lt n (lit< tt)) (mod-lt b (lit< tt)) (mod-lt c (lit< tt)), ← half b c, ← low b c)
+    ∙ rw (
+      half n b,
+      low n b,
+      ih (b / 2) (c / 2),
+      bits (n % 2) (b % 2) (c % 2) (mod-lt n (lit< tt))
+          (mod-lt b (lit< tt)) (mod-lt c (lit< tt)),
+      ← half b c,
+      ← low b c,
+    )
     (sym (step n (op b c)))) a

@@ -1,13 +1,13 @@
 -- Loops that fill an array place by place: the first i of its n places have what a rule f gives.
 -- Assumes nothing.
-use mathlib.Core.Path.{_≡_, refl, sym, _∙_, ap}
 use mathlib.Core.List.{List, [], _∷_}
+use mathlib.Core.Path.{_≡_, refl, sym, _∙_, ap}
 use Prim.Native.Nat.{ℕ, zero, suc, _+_, _<_, _≤_}
 use native.Mathlib.Nat.{le-of-suc-le-suc, not-suc-le-zero}
 use native.Mathlib.Omega.{arith}
-use borrow.Author.Count.{below-more}
 use lib.ListN.{length, getD, set, length-set}
 use lib.Seq.{ext-getD, getD-set-same, getD-set-other}
+use borrow.Author.Count.{below-more}
 use Rattle.laws.specs.Tabulate.{tabulate}
 
 pub length-tabulate : {A : Type 0} (n : ℕ) (f : ℕ → A) → length (tabulate n f) ≡ n
@@ -19,7 +19,8 @@ getD-tabulate zero f i d h = absurd (not-suc-le-zero h)
 getD-tabulate (suc n) f zero d h = refl
 getD-tabulate (suc n) f (suc i) d h = getD-tabulate n (λ k. f (suc k)) i d (le-of-suc-le-suc h)
 
-pub tabulate-ext : {A : Type 0} (n : ℕ) (f g : ℕ → A) → ((i : ℕ) → i < n → f i ≡ g i) → tabulate n f ≡ tabulate n g
+pub tabulate-ext : {A : Type 0} (n : ℕ) (f g : ℕ → A) → ((i : ℕ) → i < n → f i ≡ g i) → tabulate n f
+    ≡ tabulate n g
 tabulate-ext zero f g e = refl
 tabulate-ext (suc n) f g e =
     ap (λ x. x ∷ tabulate n (λ k. f (suc k))) (e zero (omega arith))
@@ -34,7 +35,8 @@ pub listed : {A : Type 0} (n : ℕ) (l : List A) (d : A) → length l ≡ n → 
 listed n l d e = rw (← e) (tabulate-getD l d)
 
 -- what holds of each value, and of the value past the end, holds at every place
-pub tabulate-all : {A : Type 0} (P : A → Type 0) (n : ℕ) (f : ℕ → A) (d : A) → P d → ((i : ℕ) → P (f i)) → (i : ℕ) → P (getD (tabulate n f) i d)
+pub tabulate-all : {A : Type 0} (P : A → Type 0) (n : ℕ) (f : ℕ → A) (d : A) → P d → ((i : ℕ) → P (f i)) →
+    (i : ℕ) → P (getD (tabulate n f) i d)
 tabulate-all P zero f d p q i = p
 tabulate-all P (suc n) f d p q zero = q zero
 tabulate-all P (suc n) f d p q (suc i) = tabulate-all P n (λ k. f (suc k)) d p (λ k. q (suc k)) i
@@ -60,7 +62,8 @@ more {d = d} {f = f} {i = i} {l = l} {v = v} p h e =
     }
 
 -- all places
-pub whole : {A : Type 0} {d : A} {n : ℕ} {f : ℕ → A} {i : ℕ} {l : List A} → Filled d n f i l → n ≤ i → l ≡ tabulate n f
+pub whole : {A : Type 0} {d : A} {n : ℕ} {f : ℕ → A} {i : ℕ} {l : List A} → Filled d n f i l → n ≤ i → l
+    ≡ tabulate n f
 whole {d = d} {n = n} {f = f} {l = l} p h =
     ext-getD d l (tabulate n f) (p .long ∙ sym (length-tabulate n f))
     (λ k hk. p .done k (omega (arith, p .long)) ∙ sym (getD-tabulate n f k d (omega (arith, p .long))))

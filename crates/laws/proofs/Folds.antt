@@ -1,7 +1,7 @@
 -- Laws of folds over a list.
 -- Assumes nothing.
 use mathlib.Core.List.{List, [], _∷_, foldl, foldl-append, List·Permᴰ, List·Permᴰ·nil, List·Permᴰ·cons, List·Permᴰ·swap, List·Permᴰ·trans}
-use mathlib.Core.Path.{_≡_, refl, sym, ap, ap₂, _∙_}
+use mathlib.Core.Path.{_≡_, refl, ap, ap₂, _∙_}
 use Prim.Native.Nat.{ℕ, suc, _+_, _<_}
 use native.Mathlib.Numerals.{add-one}
 use lib.ListN.{length, take, getD}
@@ -15,7 +15,8 @@ module _ {A B : Type 0} (f : B → A → B) where
   fold-more b l i d h = rw (add-one, take-suc l i d h, foldl-append f b (take i l) (getD l i d ∷ []))
 
   -- what each step keeps
-  pub fold-keeps : (P : B → Type 0) → ((b : B) (a : A) → P b → P (f b a)) → (b : B) (l : List A) → P b → P (foldl f b l)
+  pub fold-keeps : (P : B → Type 0) → ((b : B) (a : A) → P b → P (f b a)) → (b : B) (l : List A) → P b → P
+      (foldl f b l)
   fold-keeps P k b [] p = p
   fold-keeps P k b (a ∷ l) p = fold-keeps P k (f b a) l (k b a p)
 
@@ -42,7 +43,8 @@ module _ {A B : Type 0} (f : B → A → B) where
 
     pub fold-order : {l m : List A} → List·Permᴰ l m → (b : B) → foldl f b l ≡ foldl f b m
     fold-order List·Permᴰ·nil b = refl
-    fold-order (List·Permᴰ·cons {b = y} {l₁ = l} e p) b = ap (λ (x : A). foldl f (f b x) l) e ∙ fold-order p (f b y)
+    fold-order (List·Permᴰ·cons {b = y} {l₁ = l} e p) b = ap (λ (x : A). foldl f (f b x) l) e ∙ fold-order p
+        (f b y)
     fold-order (List·Permᴰ·swap {a = x} {b = y} {l = l} e g) b =
         ap (λ (c : B). foldl f c l) (exchange b x y ∙ ap₂ (λ (v w : A). f (f b v) w) g e)
     fold-order (List·Permᴰ·trans p q) b = fold-order p b ∙ fold-order q b

@@ -4,10 +4,10 @@ use mathlib.Core.List.{List, [], _∷_}
 use mathlib.Core.Path.{_≡_, refl, sym, _∙_, ap}
 use Prim.Native.Nat.{ℕ, zero, suc, _/_, _%_, _^_, max}
 use native.Mathlib.Nat.{mod-lt, div-self}
+use lib.Bits.{bitOr, or-step, or-shr, or-mod, or-comm}
 use lib.Dec.{lit<}
 use lib.ListN.{getD, set}
 use lib.Pow.{pow-pos}
-use lib.Bits.{bitOr, or-step, or-shr, or-mod, or-comm}
 use Rattle.laws.proofs.Bitwise.{by-bit, by-bits, by-three, bitwise-assoc}
 
 pub or-assoc : (a b c : ℕ) → bitOr (bitOr a b) c ≡ bitOr a (bitOr b c)
@@ -30,7 +30,8 @@ or-bit a b k = rw (or-shr a b k, or-mod (a / 2 ^ k) (b / 2 ^ k) 1)
 
 -- a bit that is set stays set
 pub or-keeps : (a b k : ℕ) → bit a k ≡ 1 → bit (bitOr a b) k ≡ 1
-or-keeps a b k e = or-bit a b k ∙ rw e (by-bit (λ n. bitOr 1 n ≡ 1) refl refl (bit b k) (mod-lt (b / 2 ^ k) (lit< tt)))
+or-keeps a b k e =
+    or-bit a b k ∙ rw e (by-bit (λ n. bitOr 1 n ≡ 1) refl refl (bit b k) (mod-lt (b / 2 ^ k) (lit< tt)))
 
 -- the power's own bit is set
 pub or-sets : (a k : ℕ) → bit (bitOr a (2 ^ k)) k ≡ 1
@@ -39,7 +40,8 @@ or-sets a k =
     ∙ rw (div-self (pow-pos k)) (by-bit (λ n. bitOr n 1 ≡ 1) refl refl (bit a k) (mod-lt (a / 2 ^ k) (lit< tt)))
 
 -- the same in a list of numbers: v is joined to the one at i
-pub or-keeps-at : (l : List ℕ) (i j v k : ℕ) → bit (getD l j 0) k ≡ 1 → bit (getD (set l i (bitOr (getD l i 0) v)) j 0) k ≡ 1
+pub or-keeps-at : (l : List ℕ) (i j v k : ℕ) → bit (getD l j 0) k ≡ 1 → bit
+    (getD (set l i (bitOr (getD l i 0) v)) j 0) k ≡ 1
 or-keeps-at [] i j v k h = h
 or-keeps-at (x ∷ xs) zero zero v k h = or-keeps x v k h
 or-keeps-at (x ∷ xs) zero (suc j) v k h = h
