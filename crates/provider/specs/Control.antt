@@ -6,7 +6,9 @@ use Prim.Native.Nat.{ℕ}
 use lib.Dec.{ltb}
 use lib.ListN.{replicate}
 use Rattle.laws.specs.Choice.{if_then_else_}
-use Rattle.account_keys.specs.Keys.{kept}
+use Rattle.account_keys.specs.Keys.{held, kept}
+use Rattle.advertising.specs.declared.Prompt.{Prompt}
+use Rattle.advertising.specs.Payload.{payload}
 use Rattle.account_keys.specs.StoredList.{reading}
 use Rattle.account_keys.specs.declared.ListForm.{ListForm}
 use Rattle.account_keys.specs.declared.ListForm.the-variants.{WellFormed, Malformed}
@@ -85,3 +87,8 @@ off =
       identity = record { public = noAddress; model = replicate 3 0 };
       beacon = record { ble = noAddress; salt = replicate 2 0; pairing = false };
     }
+
+-- "Asking for a payload changes no state and needs no clock."
+abbrev pub advertised : Device → Prompt → List ℕ
+advertised d prompt =
+    payload (d .beacon .pairing) (d .identity .model) (held (d .keys)) (d .beacon .salt) prompt

@@ -1,6 +1,7 @@
 // The Fast Pair provider: one method for each event of document 01. A device goes in by value, and the next one comes back.
 use account_keys::AccountKeys;
 use account_keys::ListForm;
+use advertising::Prompt;
 use basics::Address;
 use basics::Link;
 use basics::Moment;
@@ -17,6 +18,7 @@ ghost use Rattle.basics.specs.Output.{reportOf, placed};
 ghost use Rattle.sessions.specs.Sessions.{linkCount};
 ghost use Rattle.provider.specs.Answers as reply;
 ghost use Rattle.provider.specs.Control as rule;
+ghost use Rattle.provider.specs.Control.{advertised};
 ghost use Rattle.provider.specs.Demands.{Valid};
 ghost use Rattle.provider.specs.Device.{given, clockStep, dropAll, dropAt};
 
@@ -193,6 +195,18 @@ impl Device {
         next.guard = Guard::new();
         next.keys = AccountKeys::none();
         next.answers(Answer::Taken)
+    }
+
+    // The advertising payload. Asking changes nothing and needs no clock.
+    pub fn advertisement(self, prompt: Prompt, out: &mut [u8]) -> Report
+        requires { ⌜ Valid self ⌝ }
+        ensures { λ r. ⌜ r ≡ reportOf (advertised self prompt) (now (out .entry)) ⌝ }
+        ensures { λ r. ⌜ now (out .exit) ≡ placed (advertised self prompt) (now (out .entry)) ⌝ }
+    {
+        let model = self.identity.model;
+        let keys = self.keys;
+        let salt = self.beacon.salt;
+        advertising::payload(self.beacon.pairing, model, keys, salt, prompt, out)
     }
 
     // The stored list, for memory that lasts. Asking changes nothing and needs no clock.
