@@ -1,0 +1,2 @@
+-- Demand 3: a gap only takes away.
+-- Assumes nothing.
