@@ -29,6 +29,7 @@ use Rattle.provider.specs.declared.Answer.the-variants.{Taken, ListMalfo
 use Rattle.provider.specs.declared.Device.{Device}
 use Rattle.provider.specs.declared.Start.{Start}
 use Rattle.account_keys.specs.Keys as keys
+use Rattle.provider.proofs.Answers.{unlike}
 use Rattle.provider.proofs.Agree.{Before, Related, Parted, Agree, Together}
 use Rattle.provider.proofs.Fewer.{fewer-dropped}
 use Rattle.provider.proofs.Together.{before-started, step-together}
@@ -102,7 +103,7 @@ taken-reads d stored start = go (reading stored .form)
         × (byForm f (takes (started (reading stored) start)) (answers d ListMalformed []) .gives .next
         ≡ started (reading stored) start)
     go WellFormed e = (refl, refl)
-    go Malformed e = absurd (subst (λ (a : Answer). T (eqb (answerNumber a) 14)) e tt)
+    go Malformed e = absurd (unlike ListMalformed Taken tt e)
 
 pub gap-only-takes-away : GapOnlyTakesAway
 gap-only-takes-away d stored start taken es fs m =

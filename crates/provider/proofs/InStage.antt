@@ -26,7 +26,8 @@ use Rattle.sessions.specs.declared.Stage.the-variants.{Idle}
 use Rattle.account_keys.specs.Keys as keys
 use Rattle.provider.proofs.Agree.{Before, Related, Parted, Agree, Together, replied, agree-if, agree-either, together-if, together-linked, before-linked}
 use Rattle.provider.proofs.Fewer.{Less, equal, lost, less-at, fewer-missed}
-use Rattle.provider.proofs.Sound.{Sound, Storable, not-idle}
+use Rattle.provider.proofs.Sound.{Sound, Storable}
+use Rattle.provider.proofs.Answers.{unlike}
 
 -- a rule on the session of link l that answers 9 if it is idle
 onHeld : ℕ → List ℕ → (Session → Device → Effect) → Session → Device → Effect
@@ -113,7 +114,7 @@ together-in-stage needed act l {out} h = record {
     one : (s : Session) (d : Device) (ss : Sessions) → Before d ss → sessionAt ss l .stage ≡ Idle
         → Agree (d .keys) out (rule s d) (answers (withSessions d ss) LinkIdle out)
     one s d ss b e = agree-either (not (isStage (s .stage) needed))
-        (missed l idle (plain WrongStage) d ss b e (not-idle WrongStage tt))
+        (missed l idle (plain WrongStage) d ss b e (unlike WrongStage LinkIdle tt))
         (record {
           told = inr (h s .answered, refl, refl);
           left = left-missed l (act s .session) (act s .stored) d ss b (h s .storable) e;
@@ -125,5 +126,5 @@ unfolding onHeld
 together-drops-held l = record {
   agree = λ d ss b. on-held l (λ s e. takes (dropAt e l)) d ss (less-at (b .fewer) l) b
       (together-linked l idle (plain Taken) .agree d ss b)
-      (λ e. missed l idle (plain Taken) d ss b e (not-idle Taken tt));
+      (λ e. missed l idle (plain Taken) d ss b e (unlike Taken LinkIdle tt));
 }

@@ -20,6 +20,7 @@ use Rattle.provider.specs.declared.Answer.the-variants.{Taken, LinkIdle,
 use Rattle.provider.specs.declared.Confirm.the-variants.{Yes, No}
 use Rattle.provider.specs.declared.Reply.{Reply}
 use Rattle.sessions.specs.declared.Session.{Session}
+use Rattle.provider.proofs.Answers.{unlike}
 
 -- sixteen bytes that begin with 0x04
 abbrev pub Storable : AccountKey → Type 0
@@ -29,14 +30,10 @@ pub record Sound (a : Act) : Type 0 where
   pub answered : a .reply .answer ≡ LinkIdle → ⊥
   pub storable : All Storable (a .stored)
 
--- an answer with another number is not 9
-pub not-idle : (a : Answer) → T (not (eqb (answerNumber a) 9)) → a ≡ LinkIdle → ⊥
-not-idle a t e = subst (λ (x : Answer). T (not (eqb (answerNumber x) 9))) e t
-
 -- an act that stores nothing
 pub silent : {s : Session} {o : List ℕ} (r : Reply) → T (not (eqb (answerNumber (r .answer)) 9))
     → Sound (record { reply = r; session = s; stored = []; output = o })
-silent r t = record { answered = not-idle (r .answer) t; storable = tt }
+silent r t = record { answered = unlike (r .answer) LinkIdle t; storable = tt }
 
 sound-if : (b : Bool) {x y : Act} → Sound x → (b ≡ false → Sound y) → Sound (if b then x else y)
 sound-if true p q = p
@@ -75,6 +72,6 @@ pub keeps-sound : (block : List ℕ) (s : Session) → Sound (keeps block s)
 unfolding keeps
 keeps-sound block s =
     sound-if (badBlock 0x04 (s .key) block) (silent (plain BadBlock) tt) (λ e. record {
-      answered = not-idle Taken tt;
+      answered = unlike Taken LinkIdle tt;
       storable = ((deciphered-long (s .key) block, begins 0x04 (s .key) block e), tt);
     })

@@ -1,0 +1,2 @@
+-- Demand 3, the last sentence.
+-- Assumes nothing.
