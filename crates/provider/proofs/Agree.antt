@@ -2,7 +2,7 @@
 -- Assumes nothing.
 use mathlib.Core.Bool.{Bool, true, false}
 use mathlib.Core.List.{List}
-use mathlib.Core.Logic.{_⊎_, inl, inr}
+use mathlib.Core.Logic.{_⊎_, inl}
 use mathlib.Core.Path.{_≡_, refl}
 use Prim.Native.Nat.{ℕ}
 use lib.Dec.{ltb}
@@ -10,8 +10,8 @@ use Rattle.laws.specs.Choice.{if_then_else_}
 use Rattle.account_keys.specs.Keys.{held, kept, member, stored}
 use Rattle.account_keys.specs.declared.AccountKey.{AccountKey}
 use Rattle.account_keys.specs.declared.AccountKeys.{AccountKeys}
-use Rattle.provider.specs.Demands.{Alike}
 use Rattle.provider.specs.Answers.{plain}
+use Rattle.provider.specs.Demands.{Alike}
 use Rattle.provider.specs.Device.{Effect, replies, answers, inTime, clockStep, withSessions, withLink, dropAll}
 use Rattle.provider.specs.declared.Answer.{Answer}
 use Rattle.provider.specs.declared.Answer.the-variants.{LinkIdle}
@@ -53,7 +53,8 @@ pub record Agree (ks : AccountKeys) (out : List ℕ) (x y : Effect) : Type 0 whe
 
 -- a rule that keeps the two runs together
 pub record Together (out : List ℕ) (rule : Device → Effect) : Type 0 where
-  pub agree : (d : Device) (ss : Sessions) → Before d ss → Agree (d .keys) out (rule d) (rule (withSessions d ss))
+  pub agree : (d : Device) (ss : Sessions) → Before d ss → Agree (d .keys) out (rule d)
+      (rule (withSessions d ss))
 
 -- the same reply in both
 pub replied : (d : Device) (ss : Sessions) (r : Reply) {o out : List ℕ} {ks : AccountKeys} → Before d ss
@@ -61,13 +62,15 @@ pub replied : (d : Device) (ss : Sessions) (r : Reply) {o out : List ℕ} {ks : 
 replied d ss r b = record { told = inl (refl, refl); left = inl (record { same = refl; before = b }) }
 
 -- the same test in both
-pub agree-if : (b : Bool) {ks : AccountKeys} {out : List ℕ} {x y z w : Effect} → Agree ks out x z → Agree ks out y w
+pub agree-if : (b : Bool) {ks : AccountKeys} {out : List ℕ} {x y z w : Effect} → Agree ks out x z
+    → Agree ks out y w
     → Agree ks out (if b then x else y) (if b then z else w)
 agree-if true p q = p
 agree-if false p q = q
 
 -- a test in the first alone
-pub agree-either : (b : Bool) {ks : AccountKeys} {out : List ℕ} {x y z : Effect} → Agree ks out x z → Agree ks out y z
+pub agree-either : (b : Bool) {ks : AccountKeys} {out : List ℕ} {x y z : Effect} → Agree ks out x z
+    → Agree ks out y z
     → Agree ks out (if b then x else y) z
 agree-either true p q = p
 agree-either false p q = q
@@ -88,7 +91,8 @@ pub before-linked : (l : ℕ) (s : Session) {d : Device} {ss : Sessions} → Bef
 before-linked l s b = record { fewer = fewer-set (b .fewer) l s; valid = b .valid }
 
 -- the same reply, and the same session of link l
-pub together-linked : (l : ℕ) (s : Session) (r : Reply) {o out : List ℕ} → Together out (λ d. replies (withLink d l s) r o)
+pub together-linked : (l : ℕ) (s : Session) (r : Reply) {o out : List ℕ} → Together out
+    (λ d. replies (withLink d l s) r o)
 together-linked l s r =
     record { agree = λ d ss b. replied (withLink d l s) (withSession ss l s) r (before-linked l s b) }
 
@@ -107,6 +111,7 @@ pub together-in-time : (t : ℕ) {out : List ℕ} {rule : Device → Effect} →
     → Together out (λ d. inTime d t out rule)
 unfolding inTime clockStep
 together-in-time t {out} {rule} r = record {
-  agree = λ d ss b. agree-if (ltb t (d .clock .0)) (replied (dropAll d) (dropAll d .sessions) _ (before-dropped d ss b))
-      (r .agree (clockStep t d) (clockStep t (withSessions d ss) .sessions) (before-stepped d ss t b))
+  agree = λ d ss b. agree-if (ltb t (d .clock .0)) (replied (dropAll d) (dropAll d .sessions) _
+      (before-dropped d ss b))
+      (r .agree (clockStep t d) (clockStep t (withSessions d ss) .sessions) (before-stepped d ss t b));
 }

@@ -4,7 +4,7 @@ use mathlib.Core.List.{List, [], _∷_, map}
 use mathlib.Core.Path.{_≡_, refl}
 use Prim.Native.Nat.{ℕ, zero, suc}
 use lib.ListN.{getD, set, replicate}
-use Rattle.sessions.specs.Sessions.{idle, nowhere, hasTimer, atClock}
+use Rattle.sessions.specs.Sessions.{idle, nowhere, atClock}
 use Rattle.sessions.specs.declared.Session.{Session}
 use Rattle.sessions.specs.declared.Stage.the-variants.{Idle}
 
@@ -16,7 +16,8 @@ pub data Less : Session → Session → Type 0 where
 -- the sessions of n links
 pub data Fewer : ℕ → List Session → List Session → Type 0 where
   none : Fewer 0 [] []
-  link : {s u : Session} {n : ℕ} {ss us : List Session} → Less s u → Fewer n ss us → Fewer (suc n) (s ∷ ss) (u ∷ us)
+  link : {s u : Session} {n : ℕ} {ss us : List Session} → Less s u → Fewer n ss us → Fewer (suc n) (s ∷ ss)
+      (u ∷ us)
 
 -- at the start both runs have the same sessions
 pub fewer-same : (n : ℕ) (s : Session) → Fewer n (replicate n s) (replicate n s)
@@ -29,13 +30,15 @@ fewer-dropped none = none
 fewer-dropped (link p f) = link (lost refl) (fewer-dropped f)
 
 -- the sessions of one link
-pub less-at : {n : ℕ} {ss us : List Session} → Fewer n ss us → (l : ℕ) → Less (getD ss l nowhere) (getD us l nowhere)
+pub less-at : {n : ℕ} {ss us : List Session} → Fewer n ss us → (l : ℕ) → Less (getD ss l nowhere)
+    (getD us l nowhere)
 less-at none l = equal
 less-at (link p f) zero = p
 less-at (link p f) (suc l) = less-at f l
 
 -- the same session on one link of both
-pub fewer-set : {n : ℕ} {ss us : List Session} → Fewer n ss us → (l : ℕ) (s : Session) → Fewer n (set ss l s) (set us l s)
+pub fewer-set : {n : ℕ} {ss us : List Session} → Fewer n ss us → (l : ℕ) (s : Session) → Fewer n (set ss l s)
+    (set us l s)
 fewer-set none l s = none
 fewer-set (link p f) zero s = link equal f
 fewer-set (link p f) (suc l) s = link p (fewer-set f l s)

@@ -1,40 +1,30 @@
 -- Demand 3: a gap only takes away.
 -- Assumes nothing.
-use mathlib.Core.Bool.{Bool, true, false}
-use mathlib.Core.List.{List, [], _∷_, _++_}
-use mathlib.Core.Logic.{_⊎_, inl, inr, ⊎-elim}
+use mathlib.Core.List.{List, []}
+use mathlib.Core.Logic.{inl, inr, ⊎-elim}
 use mathlib.Core.Path.{_≡_, refl, sym, ap, subst, _∙_}
 use Prim.Native.Nat.{ℕ}
-use lib.Dec.{T, leb, eqb}
-use lib.ListN.{length, drop}
-use Rattle.account_keys.proofs.Laws.{held-kept}
-use Rattle.account_keys.proofs.ReadBack.{reads-back}
-use Rattle.account_keys.specs.Keys.{limit, held, kept, member, stored}
+use lib.Dec.{T}
+use Rattle.account_keys.specs.Keys.{held, member, stored}
 use Rattle.account_keys.specs.StoredList.{reading, writing}
 use Rattle.account_keys.specs.declared.AccountKey.{AccountKey}
 use Rattle.account_keys.specs.declared.AccountKeys.{AccountKeys}
 use Rattle.account_keys.specs.declared.ListForm.{ListForm}
 use Rattle.account_keys.specs.declared.ListForm.the-variants.{WellFormed, Malformed}
-use Rattle.account_keys.specs.declared.Reading.{Reading}
-use Rattle.basics.proofs.Laws.{same-refl}
-use Rattle.laws.specs.Choice.{if_then_else_, _or_}
-use Rattle.provider.specs.Answers.{answerNumber}
 use Rattle.provider.specs.Control.{byForm, powerOn, started}
-use Rattle.provider.specs.Demands.{Marked, done, same, added, written, Lists, Stores, Compared, Parting, TwoRuns, GapOnlyTakesAway} 
-use Rattle.provider.specs.Device.{answers, takes, withSessions}
+use Rattle.provider.specs.Demands.{Marked, done, same, added, written, Lists, Stores, Compared, Parting, TwoRuns, GapOnlyTakesAway}
+use Rattle.provider.specs.Device.{answers, takes}
 use Rattle.provider.specs.Event.{Event, Overflow, PowerOn, lent, step, next}
 use Rattle.provider.specs.Table.{answerOf}
-use Rattle.provider.specs.declared.Answer.{Answer}
 use Rattle.provider.specs.declared.Answer.the-variants.{Taken, ListMalformed}
 use Rattle.provider.specs.declared.Device.{Device}
 use Rattle.provider.specs.declared.Start.{Start}
-use Rattle.account_keys.specs.Keys as keys
+use Rattle.account_keys.proofs.Laws.{held-kept}
+use Rattle.provider.proofs.Agree.{Related, Parted, Agree}
 use Rattle.provider.proofs.Answers.{unlike}
-use Rattle.provider.proofs.Agree.{Before, Related, Parted, Agree, Together}
 use Rattle.provider.proofs.Fewer.{fewer-dropped}
-use Rattle.provider.proofs.Together.{before-started, step-together}
-
 use Rattle.provider.proofs.Stores.{member-stored, lists, stores-none}
+use Rattle.provider.proofs.Together.{before-started, step-together}
 
 -- ---- one event
 
@@ -46,11 +36,13 @@ same-written : {d c : Device} → Related d c → written c ≡ written d
 same-written r = ap (λ (ks : AccountKeys). writing (held ks)) (same-keys r)
 
 -- where the runs go on together, both store the same
-stores-same : (d c : Device) (e : Event) → Related d c → Related (next d e) (next c e) → (k : AccountKey) → Stores c e k
+stores-same : (d c : Device) (e : Event) → Related d c → Related (next d e) (next c e) → (k : AccountKey)
+    → Stores c e k
     → Stores d e k
-stores-same d c e r q k s =
-    (subst (λ (b : List ℕ). Lists b k) (same-written q) (s .0),
-    λ h. s .1 (subst (λ (b : List ℕ). Lists b k) (sym (same-written r)) h))
+stores-same d c e r q k s = (
+  subst (λ (b : List ℕ). Lists b k) (same-written q) (s .0),
+  λ h. s .1 (subst (λ (b : List ℕ). Lists b k) (sym (same-written r)) h),
+)
 
 -- where the runs part, the first stores a key and the second none
 module _ (d c : Device) (e : Event) (r : Related d c) (p : Parted (d .keys) (next d e) (next c e)) where
@@ -58,12 +50,13 @@ module _ (d c : Device) (e : Event) (r : Related d c) (p : Parted (d .keys) (nex
   parted-none k = stores-none c e k (p .second ∙ sym (same-keys r))
 
   parted-stores : Stores d e (p .key)
-  parted-stores =
-      (lists (next d e .keys) (p .key) (p .valid)
-      ∙ ap (λ (ks : AccountKeys). member (held ks) (p .key)) (p .first)
-      ∙ ap (λ (l : List AccountKey). member l (p .key)) (held-kept (stored (held (d .keys)) (p .key)))
-      ∙ member-stored (held (d .keys)) (p .key),
-      λ h. subst T (sym h ∙ lists (d .keys) (p .key) (r .before .valid) ∙ p .new) tt)
+  parted-stores = (
+    lists (next d e .keys) (p .key) (p .valid)
+        ∙ ap (λ (ks : AccountKeys). member (held ks) (p .key)) (p .first)
+        ∙ ap (λ (l : List AccountKey). member l (p .key)) (held-kept (stored (held (d .keys)) (p .key)))
+        ∙ member-stored (held (d .keys)) (p .key),
+    λ h. subst T (sym h ∙ lists (d .keys) (p .key) (r .before .valid) ∙ p .new) tt,
+  )
 
   parting : Parting d c e
   parting = (p .key, parted-stores, parted-none (p .key))
@@ -71,8 +64,10 @@ module _ (d c : Device) (e : Event) (r : Related d c) (p : Parted (d .keys) (nex
 step-agree : (d c : Device) (e : Event) → Related d c → Agree (d .keys) (lent e) (step d e) (step c e)
 step-agree d c e r = rw (r .same) (step-together e .agree d (c .sessions) (r .before))
 
-compared : (d c : Device) (e : Event) (r : Related d c) → Agree (d .keys) (lent e) (step d e) (step c e) → Compared d c e
-compared d c e r a = (a .told, ⊎-elim (stores-same d c e r) (λ p k s. absurd (parted-none d c e r p k s)) (a .left))
+compared : (d c : Device) (e : Event) (r : Related d c) → Agree (d .keys) (lent e) (step d e) (step c e)
+    → Compared d c e
+compared d c e r a =
+    (a .told, ⊎-elim (stores-same d c e r) (λ p k s. absurd (parted-none d c e r p k s)) (a .left))
 
 -- ---- the runs
 
@@ -87,9 +82,11 @@ two-runs : {es fs : List Event} (m : Marked es fs) (d c : Device) → Related d 
 two-runs done d c r = tt
 two-runs (added m) d c r = two-runs m d (next c Overflow) (marker-added d c r)
 two-runs (same e m) d c r =
-    let a : Agree (d .keys) (lent e) (step d e) (step c e) = step-agree d c e r in
-    (compared d c e r a,
-    ⊎-elim (λ q. inr (sym (same-written q), two-runs m (next d e) (next c e) q)) (λ p. inl (parting d c e r p)) (a .left))
+    let a : Agree (d .keys) (lent e) (step d e) (step c e) = step-agree d c e r in (
+      compared d c e r a,
+      ⊎-elim (λ q. inr (sym (same-written q), two-runs m (next d e) (next c e) q)) (λ p. inl (parting d c e r p))
+          (a .left),
+    )
 
 -- a taken power-on read a list
 taken-reads : (d : Device) (stored : List ℕ) (start : Start) → answerOf d (PowerOn stored start) ≡ Taken
@@ -98,7 +95,8 @@ unfolding powerOn
 taken-reads d stored start = go (reading stored .form)
   where
     go : (f : ListForm)
-        → byForm f (takes (started (reading stored) start)) (answers d ListMalformed []) .gives .reply .answer ≡ Taken
+        → byForm f (takes (started (reading stored) start)) (answers d ListMalformed []) .gives .reply .answer
+        ≡ Taken
         → (f ≡ WellFormed)
         × (byForm f (takes (started (reading stored) start)) (answers d ListMalformed []) .gives .next
         ≡ started (reading stored) start)

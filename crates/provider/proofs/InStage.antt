@@ -5,13 +5,11 @@ use mathlib.Core.List.{List, [], _∷_}
 use mathlib.Core.Logic.{_⊎_, inl, inr}
 use mathlib.Core.Path.{_≡_, refl, ap}
 use Prim.Native.Nat.{ℕ}
-use Rattle.account_keys.proofs.Laws.{stored-held}
-use Rattle.account_keys.proofs.Storing.{stores-valid}
+use Rattle.laws.specs.Choice.{if_then_else_}
+use Rattle.laws.specs.Lists.{All}
 use Rattle.account_keys.specs.Keys.{held, kept, member, stored}
 use Rattle.account_keys.specs.declared.AccountKey.{AccountKey}
 use Rattle.account_keys.specs.declared.AccountKeys.{AccountKeys}
-use Rattle.laws.specs.Choice.{if_then_else_}
-use Rattle.laws.specs.Lists.{All}
 use Rattle.provider.specs.Answers.{plain}
 use Rattle.provider.specs.Device.{Effect, replies, answers, takes, withSessions, withKeys, withLink, dropAt}
 use Rattle.provider.specs.Pairing.{Act, acted, withStored, isStage, inStage, dropsHeld}
@@ -24,10 +22,12 @@ use Rattle.sessions.specs.declared.Sessions.{Sessions}
 use Rattle.sessions.specs.declared.Stage.{Stage}
 use Rattle.sessions.specs.declared.Stage.the-variants.{Idle}
 use Rattle.account_keys.specs.Keys as keys
+use Rattle.account_keys.proofs.Laws.{stored-held}
+use Rattle.account_keys.proofs.Storing.{stores-valid}
 use Rattle.provider.proofs.Agree.{Before, Related, Parted, Agree, Together, replied, agree-if, agree-either, together-if, together-linked, before-linked}
+use Rattle.provider.proofs.Answers.{unlike}
 use Rattle.provider.proofs.Fewer.{Less, equal, lost, less-at, fewer-missed}
 use Rattle.provider.proofs.Sound.{Sound, Storable}
-use Rattle.provider.proofs.Answers.{unlike}
 
 -- a rule on the session of link l that answers 9 if it is idle
 onHeld : ℕ → List ℕ → (Session → Device → Effect) → Session → Device → Effect
@@ -63,7 +63,8 @@ with-stored-valid ks [] v p = v
 with-stored-valid ks (k ∷ l) v p = stores-valid ks k v (p .0 .0) (p .0 .1)
 
 -- a key that the first run stored: one that it held changes nothing, another one parts the runs
-left-missed : (l : ℕ) (s : Session) (new : List AccountKey) (d : Device) (ss : Sessions) → Before d ss → All Storable new
+left-missed : (l : ℕ) (s : Session) (new : List AccountKey) (d : Device) (ss : Sessions) → Before d ss
+    → All Storable new
     → sessionAt ss l .stage ≡ Idle
     → Related (withLink (withKeys d (withStored (d .keys) new)) l s) (withSessions d ss)
     ⊎ Parted (d .keys) (withLink (withKeys d (withStored (d .keys) new)) l s) (withSessions d ss)
@@ -78,7 +79,8 @@ left-missed l s (k ∷ new) d ss b p e = go (member (held (d .keys)) k) refl
         → Related (withLink (withKeys d (withStored (d .keys) (k ∷ new))) l s) (withSessions d ss)
         ⊎ Parted (d .keys) (withLink (withKeys d (withStored (d .keys) (k ∷ new))) l s) (withSessions d ss)
     go true q = inl (record {
-      same = ap (λ (ks : AccountKeys). withKeys (withSessions d ss) ks) (stored-held (d .keys) k (b .valid .canonical) q);
+      same = ap (λ (ks : AccountKeys). withKeys (withSessions d ss) ks)
+          (stored-held (d .keys) k (b .valid .canonical) q);
       before = record { fewer = fewer-missed (b .fewer) l s e; valid = valid };
     })
     go false q = inr (record { key = k; new = q; first = refl; valid = valid; second = refl })
@@ -88,7 +90,8 @@ left-missed l s (k ∷ new) d ss b p e = go (member (held (d .keys)) k) refl
 -- the same act in both
 together-acted : (l : ℕ) (a : Act) {out : List ℕ} → Sound a → Together out (λ d. acted d l a)
 together-acted l a h = record {
-  agree = λ d ss b. replied (withLink (withKeys d (withStored (d .keys) (a .stored))) l (a .session)) _ (a .reply)
+  agree = λ d ss b. replied (withLink (withKeys d (withStored (d .keys) (a .stored))) l (a .session)) _
+      (a .reply)
       (before-linked l (a .session) (record {
         fewer = b .fewer;
         valid = with-stored-valid (d .keys) (a .stored) (b .valid) (h .storable);
@@ -96,7 +99,8 @@ together-acted l a h = record {
 }
 
 -- pairing started, confirmation needed, passkey write, pairing ended with success, account key write
-pub together-in-stage : (needed : Stage) (act : Session → Act) (l : ℕ) {out : List ℕ} → ((s : Session) → Sound (act s))
+pub together-in-stage : (needed : Stage) (act : Session → Act) (l : ℕ) {out : List ℕ} →
+    ((s : Session) → Sound (act s))
     → Together out (λ d. inStage needed act d l out)
 unfolding inStage onHeld
 together-in-stage needed act l {out} h = record {
@@ -105,7 +109,8 @@ together-in-stage needed act l {out} h = record {
 }
   where
     rule : Session → Device → Effect
-    rule s d = if not (isStage (s .stage) needed) then answers (dropAt d l) WrongStage out else acted d l (act s)
+    rule s d = if not (isStage (s .stage) needed) then answers (dropAt d l) WrongStage out else acted d l
+        (act s)
 
     both : (s : Session) → Together out (rule s)
     both s = together-if (not (isStage (s .stage) needed)) (together-linked l idle (plain WrongStage))

@@ -2,19 +2,19 @@
 -- Assumes nothing.
 use mathlib.Core.Bool.{Bool, true, false, not}
 use mathlib.Core.List.{List, [], _∷_, map}
-use mathlib.Core.Path.{_≡_, refl, sym, ap, subst, _∙_}
+use mathlib.Core.Path.{_≡_, refl, ap, subst}
 use Prim.Native.Nat.{ℕ, zero, suc}
 use lib.Dec.{T, eqb, ltb}
 use lib.ListN.{length, getD, set, replicate}
 use borrow.Author.Tests.{eq-eqb}
+use Rattle.laws.specs.Choice.{if_then_else_, _and_}
 use Rattle.account_keys.specs.StoredList.{reading}
 use Rattle.account_keys.specs.declared.ListForm.{ListForm}
 use Rattle.account_keys.specs.declared.ListForm.the-variants.{WellFormed, Malformed}
 use Rattle.key_based.specs.Request.{hasPublicKey, sized, opened, Found, found, nothing, requestSalt}
 use Rattle.key_based.specs.declared.Element.{Element}
-use Rattle.laws.specs.Choice.{if_then_else_, _and_}
-use Rattle.provider.specs.Control.{linkChanged, pairingMode, addressRotated, factoryReset, byForm, powerOn, started}
 use Rattle.provider.specs.Answers.{plain}
+use Rattle.provider.specs.Control.{linkChanged, pairingMode, addressRotated, factoryReset, byForm, powerOn, started}
 use Rattle.provider.specs.Device.{Effect, replies, answers, takes, dropAll, dropAt, withLink, inTime, clockStep}
 use Rattle.provider.specs.Event.{Event, Overflow, LinkUp, LinkDown, PairingMode, AddressRotated, PowerOn, FactoryReset, KeyBasedWrite, PairingStarted, ConfirmationNeeded, PasskeyWrite, PairingEnded, AccountKeyWrite, step}
 use Rattle.provider.specs.KeyBased.{tried, asked, accepted, settled, keyBasedOn, keyBasedWrite}
@@ -27,7 +27,6 @@ use Rattle.provider.specs.declared.Start.{Start}
 use Rattle.request_guard.specs.Guard.{remembered, spent, locked}
 use Rattle.sessions.specs.Sessions.{linkCount, idle, allIdle, nowhere, sessionAt, atClock}
 use Rattle.sessions.specs.declared.Session.{Session}
-use Rattle.sessions.specs.declared.Sessions.{Sessions}
 use Rattle.sessions.specs.declared.Stage.{Stage}
 use Rattle.sessions.specs.declared.Stage.the-variants.{Idle, Asked, Pairing, Confirming, Proved, Paired}
 use Rattle.provider.proofs.Fewer.{idle-at-clock}
@@ -50,7 +49,8 @@ expired-idle t (s ∷ ss) zero e = idle-at-clock t s e
 expired-idle t (s ∷ ss) (suc l) e = expired-idle t ss l e
 
 -- a session of link m, which is idle if that is l
-set-idle : (ss : List Session) (m l : ℕ) (s : Session) → (m ≡ l → s .stage ≡ Idle) → getD ss l nowhere .stage ≡ Idle
+set-idle : (ss : List Session) (m l : ℕ) (s : Session) → (m ≡ l → s .stage ≡ Idle) → getD ss l nowhere .stage
+    ≡ Idle
     → getD (set ss m s) l nowhere .stage ≡ Idle
 set-idle [] m l s h e = e
 set-idle (x ∷ xs) zero zero s h e = h refl
@@ -100,7 +100,8 @@ dropping : {Asks : Type 0} {l : ℕ} {rule : Device → Effect}
     → ((d : Device) → rule d .gives .next .sessions ≡ allIdle) → Quieting Asks l rule
 dropping {l = l} h = record { quiet = λ d e. still (rw (h d) (all-idle linkCount l)) }
 
-in-time-quieting : (t : ℕ) (out : List ℕ) {Asks : Type 0} {l : ℕ} {rule : Device → Effect} → Quieting Asks l rule
+in-time-quieting : (t : ℕ) (out : List ℕ) {Asks : Type 0} {l : ℕ} {rule : Device → Effect}
+    → Quieting Asks l rule
     → Quieting Asks l (λ d. inTime d t out rule)
 unfolding inTime
 in-time-quieting t out {l = l} r = record {
@@ -173,7 +174,8 @@ key-based-on-quieting m t request element salt out l = record {
 
 -- every kind of event
 pub step-quieting : (e : Event) (l : ℕ) → Quieting (isRequestOn l e ≡ true) l (λ d. step d e)
-unfolding linkChanged pairingMode addressRotated factoryReset keyBasedWrite pairingStarted confirmationNeeded passkeyWrite pairingEnded accountKeyWrite
+unfolding linkChanged pairingMode addressRotated factoryReset keyBasedWrite pairingStarted confirmationNeeded
+    passkeyWrite pairingEnded accountKeyWrite
 step-quieting Overflow l = dropping (λ d. refl)
 step-quieting (LinkUp m t) l =
     quieting-if (ltb 7 m) (untouched (λ d. refl)) (in-time-quieting t [] (drops-quieting m (plain Taken) []))
@@ -189,7 +191,8 @@ step-quieting (KeyBasedWrite m t request element salt out) l =
     (quieting-if (ltb (length out) 16) (untouched (λ d. refl))
     (in-time-quieting t out (key-based-on-quieting m t request element salt out l))))
 step-quieting (PairingStarted m t c) l =
-    quieting-if (ltb 7 m) (untouched (λ d. refl)) (in-time-quieting t [] (in-stage-quieting Asked (begun t c) m []))
+    quieting-if (ltb 7 m) (untouched (λ d. refl)) (in-time-quieting t []
+    (in-stage-quieting Asked (begun t c) m []))
 step-quieting (ConfirmationNeeded m t passkey) l =
     quieting-if (ltb 7 m) (untouched (λ d. refl))
     (quieting-if (ltb 999999 passkey) (untouched (λ d. refl))
@@ -203,4 +206,5 @@ step-quieting (PairingEnded m t success) l =
     (in-time-quieting t [] (quieting-if success
     (in-stage-quieting Proved (λ s. goesOn (becomes Paired t s) []) m []) (drops-held-quieting m)))
 step-quieting (AccountKeyWrite m t block) l =
-    quieting-if (ltb 7 m) (untouched (λ d. refl)) (in-time-quieting t [] (in-stage-quieting Paired (keeps block) m []))
+    quieting-if (ltb 7 m) (untouched (λ d. refl)) (in-time-quieting t []
+    (in-stage-quieting Paired (keeps block) m []))

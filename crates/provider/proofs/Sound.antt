@@ -1,8 +1,8 @@
 -- What every act on a session has: its answer is not 9, and it stores only keys that the list may hold.
 -- Assumes nothing.
 use mathlib.Core.Bool.{Bool, true, false, not}
-use mathlib.Core.List.{List, [], _∷_}
-use mathlib.Core.Path.{_≡_, refl, ap, subst}
+use mathlib.Core.List.{List, []}
+use mathlib.Core.Path.{_≡_, refl, subst}
 use Prim.Native.Nat.{ℕ}
 use lib.Dec.{T, eqb}
 use lib.ListN.{length, getD}
@@ -14,8 +14,7 @@ use Rattle.account_keys.specs.declared.AccountKey.{AccountKey}
 use Rattle.aes128.specs.Cipher.{invCipher, invCipherBy}
 use Rattle.aes128.specs.Rounds.{addRoundKey}
 use Rattle.provider.specs.Answers.{answerNumber, plain, confirming}
-use Rattle.provider.specs.Pairing.{Act, begun, shows, compared, passkeyIn, passkeyResponse, proves, keeps, refusedCapability, badBlock}
-use Rattle.provider.specs.declared.Answer.{Answer}
+use Rattle.provider.specs.Pairing.{Act, begun, shows, passkeyIn, proves, keeps, refusedCapability, badBlock}
 use Rattle.provider.specs.declared.Answer.the-variants.{Taken, LinkIdle, CapabilityRefused, BadBlock}
 use Rattle.provider.specs.declared.Confirm.the-variants.{Yes, No}
 use Rattle.provider.specs.declared.Reply.{Reply}
@@ -42,7 +41,8 @@ sound-if false p q = q refl
 -- ---- the acts
 
 pub begun-sound : (t c : ℕ) (s : Session) → Sound (begun t c s)
-begun-sound t c s = sound-if (refusedCapability c) (silent (plain CapabilityRefused) tt) (λ e. silent (plain Taken) tt)
+begun-sound t c s =
+    sound-if (refusedCapability c) (silent (plain CapabilityRefused) tt) (λ e. silent (plain Taken) tt)
 
 pub shows-sound : (t passkey : ℕ) (s : Session) → Sound (shows t passkey s)
 shows-sound t passkey s = silent (plain Taken) tt
@@ -64,9 +64,11 @@ or-false true b e = absurd (subst T e tt)
 or-false false b e = e
 
 -- a block that is not bad begins as wanted
-begins : (first : ℕ) (key block : List ℕ) → badBlock first key block ≡ false → getD (invCipher key block) 0 0 ≡ first
+begins : (first : ℕ) (key block : List ℕ) → badBlock first key block ≡ false → getD (invCipher key block) 0 0
+    ≡ first
 begins first key block e =
-    eqb-true _ _ (not-false _ (or-false (not (eqb (length block) 16)) (not (eqb (getD (invCipher key block) 0 0) first)) e))
+    eqb-true _ _ (not-false _ (or-false (not (eqb (length block) 16))
+    (not (eqb (getD (invCipher key block) 0 0) first)) e))
 
 pub keeps-sound : (block : List ℕ) (s : Session) → Sound (keeps block s)
 unfolding keeps

@@ -2,35 +2,22 @@
 -- Assumes nothing.
 use mathlib.Core.Bool.{Bool, true, false}
 use mathlib.Core.List.{List, [], _∷_, _++_}
-use mathlib.Core.Logic.{_⊎_, inl, inr, ⊎-elim}
-use mathlib.Core.Path.{_≡_, refl, sym, ap, subst, _∙_}
-use Prim.Native.Nat.{ℕ}
-use lib.Dec.{T, leb, eqb}
+use mathlib.Core.Path.{_≡_, refl, ap, subst}
+use lib.Dec.{leb}
 use lib.ListN.{length, drop}
-use Rattle.account_keys.proofs.Laws.{held-kept}
-use Rattle.account_keys.proofs.ReadBack.{reads-back}
-use Rattle.account_keys.specs.Keys.{limit, held, kept, member, stored}
+use Rattle.laws.specs.Choice.{if_then_else_, _or_}
+use Rattle.account_keys.specs.Keys.{limit, held, member, stored}
 use Rattle.account_keys.specs.StoredList.{reading, writing}
 use Rattle.account_keys.specs.declared.AccountKey.{AccountKey}
 use Rattle.account_keys.specs.declared.AccountKeys.{AccountKeys}
-use Rattle.account_keys.specs.declared.ListForm.{ListForm}
-use Rattle.account_keys.specs.declared.ListForm.the-variants.{WellFormed, Malformed}
 use Rattle.account_keys.specs.declared.Reading.{Reading}
-use Rattle.basics.proofs.Laws.{same-refl}
 use Rattle.basics.specs.Bytes.{same}
-use Rattle.laws.specs.Choice.{if_then_else_, _or_}
-use Rattle.provider.specs.Answers.{answerNumber}
-use Rattle.provider.specs.Control.{byForm, powerOn, started}
-use Rattle.provider.specs.Device.{answers, takes, withSessions}
-use Rattle.provider.specs.Event.{Event, Overflow, PowerOn, lent, step, next}
-use Rattle.provider.specs.Table.{answerOf}
-use Rattle.provider.specs.declared.Answer.{Answer}
-use Rattle.provider.specs.declared.Answer.the-variants.{Taken, ListMalformed}
-use Rattle.provider.specs.declared.Device.{Device}
-use Rattle.provider.specs.declared.Start.{Start}
-use Rattle.account_keys.specs.Keys as keys
-
 use Rattle.provider.specs.Demands.{Lists, Stores}
+use Rattle.provider.specs.Event.{Event, next}
+use Rattle.provider.specs.declared.Device.{Device}
+use Rattle.account_keys.specs.Keys as keys
+use Rattle.account_keys.proofs.ReadBack.{reads-back}
+use Rattle.basics.proofs.Laws.{same-refl}
 
 -- the last key of a list is a member
 member-last : (l : List AccountKey) (k : AccountKey) → member (l ++ (k ∷ [])) k ≡ true

@@ -1,25 +1,23 @@
 -- Every kind of event keeps the two runs of demand 3 together, up to the parting. Each proof follows its rule.
 -- Assumes nothing.
-use mathlib.Core.Bool.{Bool, true, false, not}
-use mathlib.Core.List.{List, [], _++_}
-use mathlib.Core.Path.{_≡_, refl, subst}
-use Prim.Native.Nat.{ℕ, zero}
+use mathlib.Core.Bool.{Bool, not}
+use mathlib.Core.List.{List, []}
+use mathlib.Core.Path.{_≡_, refl}
+use Prim.Native.Nat.{ℕ}
 use native.Mathlib.Omega.{arith}
 use lib.Dec.{ltb}
-use lib.ListN.{length, drop}
-use Rattle.account_keys.proofs.Laws.{kept-valid}
-use Rattle.account_keys.proofs.ReadBack.{reads-valid}
+use lib.ListN.{length}
+use Rattle.laws.specs.Choice.{_and_}
 use Rattle.account_keys.specs.Keys.{kept}
 use Rattle.account_keys.specs.StoredList.{reading}
 use Rattle.account_keys.specs.declared.ListForm.{ListForm}
 use Rattle.account_keys.specs.declared.ListForm.the-variants.{WellFormed, Malformed}
 use Rattle.basics.specs.declared.Address.{Address}
-use Rattle.key_based.specs.Request.{hasPublicKey, sized, opened, Found, found, nothing, requestSalt, bondAsked, response}
+use Rattle.key_based.specs.Request.{hasPublicKey, sized, opened, Found, found, nothing, requestSalt, bondAsked}
 use Rattle.key_based.specs.declared.Element.{Element}
-use Rattle.laws.specs.Choice.{if_then_else_, _and_}
 use Rattle.provider.specs.Answers.{plain, afterTrying}
 use Rattle.provider.specs.Control.{overflow, linkChanged, pairingMode, addressRotated, factoryReset, byForm, powerOn, started}
-use Rattle.provider.specs.Device.{Effect, answers, takes, withSessions, withGuard, withKeys, withBeacon, dropAll}
+use Rattle.provider.specs.Device.{answers, takes, withSessions, withGuard, withKeys, withBeacon, dropAll}
 use Rattle.provider.specs.Event.{Event, Overflow, LinkUp, LinkDown, PairingMode, AddressRotated, PowerOn, FactoryReset, KeyBasedWrite, PairingStarted, ConfirmationNeeded, PasskeyWrite, PairingEnded, AccountKeyWrite, lent, step}
 use Rattle.provider.specs.KeyBased.{tried, asked, accepted, settled, keyBasedOn, keyBasedWrite}
 use Rattle.provider.specs.Pairing.{begun, shows, becomes, goesOn, proves, keeps, pairingStarted, confirmationNeeded, passkeyWrite, pairingEnded, accountKeyWrite}
@@ -31,14 +29,15 @@ use Rattle.provider.specs.declared.Start.{Start}
 use Rattle.request_guard.specs.Guard.{remembered, spent, locked, failedAt, acceptedWith, fresh}
 use Rattle.request_guard.specs.declared.Guard.{Guard}
 use Rattle.sessions.specs.Sessions.{linkCount, idle, allIdle}
-use Rattle.sessions.specs.declared.Session.{Session}
 use Rattle.sessions.specs.declared.Sessions.{Sessions}
 use Rattle.sessions.specs.declared.Stage.the-variants.{Asked, Pairing, Confirming, Proved, Paired}
 use Rattle.account_keys.specs.Keys as keys
+use Rattle.account_keys.proofs.Laws.{kept-valid}
+use Rattle.account_keys.proofs.ReadBack.{reads-valid}
 use Rattle.provider.proofs.Agree.{Before, Agree, Together, replied, agree-if, together-if, together-refused, together-linked, before-dropped, together-in-time}
 use Rattle.provider.proofs.Fewer.{fewer-same}
 use Rattle.provider.proofs.InStage.{together-in-stage, together-drops-held}
-use Rattle.provider.proofs.Sound.{Sound, silent, begun-sound, shows-sound, proves-sound, keeps-sound}
+use Rattle.provider.proofs.Sound.{silent, begun-sound, shows-sound, proves-sound, keeps-sound}
 
 -- ---- overflow marker, links, pairing mode, rotation, factory reset, power-on
 
@@ -50,7 +49,8 @@ overflow-together = record {
 link-changed-together : (l t : ℕ) → Together [] (λ d. linkChanged d l t)
 unfolding linkChanged
 link-changed-together l t =
-    together-if (ltb 7 l) (together-refused UnknownLink) (together-in-time t (together-linked l idle (plain Taken)))
+    together-if (ltb 7 l) (together-refused UnknownLink) (together-in-time t
+    (together-linked l idle (plain Taken)))
 
 beacon-together : (change : Beacon → Beacon) → Together [] (λ d. takes (withBeacon d (change (d .beacon))))
 beacon-together change = record {
@@ -63,7 +63,8 @@ unfolding pairingMode
 pairing-mode-together on t =
     together-in-time t (beacon-together (λ b. record { ble = b .ble; salt = b .salt; pairing = on }))
 
-address-rotated-together : (ble : Address) (salt : List ℕ) (t : ℕ) → Together [] (λ d. addressRotated d ble salt t)
+address-rotated-together : (ble : Address) (salt : List ℕ) (t : ℕ) → Together []
+    (λ d. addressRotated d ble salt t)
 unfolding addressRotated
 address-rotated-together ble salt t =
     together-in-time t (beacon-together (λ b. record { ble = ble; salt = salt; pairing = b .pairing }))
@@ -92,7 +93,8 @@ power-on-together stored start = record { agree = λ d ss b. go d ss b (reading 
     go : (d : Device) (ss : Sessions) → Before d ss → (f : ListForm) → reading stored .form ≡ f
         → Agree (d .keys) [] (byForm f (takes (started (reading stored) start)) (answers d ListMalformed []))
         (byForm f (takes (started (reading stored) start)) (answers (withSessions d ss) ListMalformed []))
-    go d ss b WellFormed e = replied (started (reading stored) start) allIdle (plain Taken) (before-started stored start e)
+    go d ss b WellFormed e = replied (started (reading stored) start) allIdle (plain Taken)
+        (before-started stored start e)
     go d ss b Malformed e = replied d ss (plain ListMalformed) b
 
 -- ---- key-based write: its answer does not depend on any session
@@ -101,10 +103,12 @@ guard-replied : {d : Device} {ss : Sessions} (g : Guard) → Before d ss → Bef
 guard-replied g b = record { fewer = b .fewer; valid = b .valid }
 
 settled-agree : (d : Device) (ss : Sessions) (l t : ℕ) (request salt out : List ℕ) (f : Found) → Before d ss
-    → Agree (d .keys) out (settled d l t request salt out f) (settled (withSessions d ss) l t request salt out f)
+    → Agree (d .keys) out (settled d l t request salt out f) (settled
+    (withSessions d ss) l t request salt out f)
 unfolding settled accepted
 settled-agree d ss l t request salt out (nothing n) b =
-    replied (withGuard d (failedAt t (d .guard))) ss (afterTrying n NoKeyFits) (guard-replied (failedAt t (d .guard)) b)
+    replied (withGuard d (failedAt t (d .guard))) ss (afterTrying n NoKeyFits)
+    (guard-replied (failedAt t (d .guard)) b)
 settled-agree d ss l t request salt out (found n key) b =
     agree-if (spent (remembered (d .guard .spent)) (requestSalt (opened key request)))
     (replied d ss (afterTrying n SaltSpent) b)
@@ -151,7 +155,8 @@ unfolding passkeyWrite
 passkey-together l t block salt out =
     together-if (ltb 7 l) (together-refused UnknownLink)
     (together-if (ltb (length out) 16) (together-refused OutputTooShort)
-    (together-in-time t (together-in-stage Confirming (proves t block salt out) l (proves-sound t block salt out))))
+    (together-in-time t (together-in-stage Confirming (proves t block salt out) l
+    (proves-sound t block salt out))))
 
 pairing-ended-together : (l t : ℕ) (success : Bool) → Together [] (λ d. pairingEnded d l t success)
 unfolding pairingEnded
