@@ -23,7 +23,7 @@ use Rattle.sessions.specs.declared.Session.{Session}
 use Rattle.sessions.specs.declared.Stage.{Stage}
 use Rattle.sessions.specs.declared.Stage.the-variants.{Confirming, Paired}
 use Rattle.provider.proofs.Answers.{unlike}
-use Rattle.provider.proofs.Quiet.{IdleAt, dropped-idle, stepped-idle, step-quieting}
+use Rattle.provider.proofs.KeepsIdle.{IdleAt, dropped-idle, stepped-idle, step-keeps-idle}
 use Rattle.provider.proofs.Stores.{stores-none}
 
 -- ---- a run in which no request is accepted on link l leaves it idle
@@ -31,7 +31,7 @@ use Rattle.provider.proofs.Stores.{stores-none}
 stays-idle : (d : Device) (es : List Event) (l : ℕ) → NoRequest l d es → IdleAt l d → IdleAt l (after d es)
 unfolding after
 stays-idle d [] l n e = e
-stays-idle d (x ∷ es) l n e = stays-idle (next d x) es l (n .1) (step-quieting x l .quiet d e .idle (n .0))
+stays-idle d (x ∷ es) l n e = stays-idle (next d x) es l (n .1) (step-keeps-idle x l .stays d e .idle (n .0))
 
 -- ---- an event that needs a key on an idle link
 
@@ -40,11 +40,13 @@ record Refused (ks : AccountKeys) (x : Effect) : Type 0 where
   answer : x .gives .reply .answer ≡ Taken → ⊥
   keys : x .gives .next .keys ≡ ks
 
+-- a test, and then one of two effects
 refused-if : (b : Bool) {ks : AccountKeys} {x y : Effect} → Refused ks x → Refused ks y → Refused ks
     (if b then x else y)
 refused-if true p q = p
 refused-if false p q = q
 
+-- an answer other than 0 that leaves the keys
 refused : (d : Device) (a : Answer) {out : List ℕ} → T (not (eqb (answerNumber a) 0)) → Refused (d .keys)
     (answers d a out)
 refused d a t = record { answer = unlike a Taken t; keys = refl }
@@ -77,6 +79,7 @@ unfolding accountKeyWrite
 refused-account-key d l t block e =
     refused-if (ltb 7 l) (refused d UnknownLink tt) (refused-in-time Paired (keeps block) d l t [] e)
 
+-- a passkey write or account key write
 needs-key : (d : Device) (e : Event) (l : ℕ) → needsKeyOn l e ≡ true → IdleAt l d → Refused (d .keys) (step d e)
 needs-key d Overflow l n i = absurd (true-is n)
 needs-key d (LinkUp m t) l n i = absurd (true-is n)

@@ -14,10 +14,10 @@ use Rattle.provider.specs.Answers.{plain}
 use Rattle.provider.specs.Demands.{Alike}
 use Rattle.provider.specs.Device.{Effect, replies, answers, inTime, clockStep, withSessions, withLink, dropAll}
 use Rattle.provider.specs.declared.Answer.{Answer}
-use Rattle.provider.specs.declared.Answer.the-variants.{LinkIdle}
+use Rattle.provider.specs.declared.Answer.the-variants.{ClockWentBack, LinkIdle}
 use Rattle.provider.specs.declared.Device.{Device}
 use Rattle.provider.specs.declared.Reply.{Reply}
-use Rattle.sessions.specs.Sessions.{linkCount, idle, withSession}
+use Rattle.sessions.specs.Sessions.{linkCount, idle, allIdle, withSession}
 use Rattle.sessions.specs.declared.Session.{Session}
 use Rattle.sessions.specs.declared.Sessions.{Sessions}
 use Rattle.account_keys.specs.Keys as keys
@@ -41,15 +41,19 @@ pub record Parted (ks : AccountKeys) (d c : Device) : Type 0 where
   pub valid : keys.Valid (d .keys)
   pub second : c .keys ≡ ks
 
--- the second run alone gets 9, and leaves the lent output
+-- `Lost` of an event that lends out: the second run alone gets 9, and leaves the lent output
 abbrev pub Missed : List ℕ → Effect → Effect → Type 0
 Missed out x y =
     (x .gives .reply .answer ≡ LinkIdle → ⊥) × (y .gives .reply .answer ≡ LinkIdle) × (y .leaves ≡ out)
 
+-- the devices after an event, where the keys were ks before it
+abbrev pub Left : AccountKeys → Device → Device → Type 0
+Left ks d c = Related d c ⊎ Parted ks d c
+
 -- an event's effects in both runs, where the keys were ks and the lent output out
 pub record Agree (ks : AccountKeys) (out : List ℕ) (x y : Effect) : Type 0 where
   pub told : Alike x y ⊎ Missed out x y
-  pub left : Related (x .gives .next) (y .gives .next) ⊎ Parted ks (x .gives .next) (y .gives .next)
+  pub left : Left ks (x .gives .next) (y .gives .next)
 
 -- a rule that keeps the two runs together
 pub record Together (out : List ℕ) (rule : Device → Effect) : Type 0 where
@@ -97,7 +101,7 @@ together-linked l s r =
     record { agree = λ d ss b. replied (withLink d l s) (withSession ss l s) r (before-linked l s b) }
 
 -- all links idle in both
-pub before-dropped : (d : Device) (ss : Sessions) → Before d ss → Before (dropAll d) (dropAll d .sessions)
+pub before-dropped : (d : Device) (ss : Sessions) → Before d ss → Before (dropAll d) allIdle
 before-dropped d ss b = record { fewer = fewer-same linkCount idle; valid = b .valid }
 
 -- the clock step in both
@@ -110,8 +114,8 @@ before-stepped d ss t b = record { fewer = fewer-expired t (b .fewer); valid = b
 pub together-in-time : (t : ℕ) {out : List ℕ} {rule : Device → Effect} → Together out rule
     → Together out (λ d. inTime d t out rule)
 unfolding inTime clockStep
-together-in-time t {out} {rule} r = record {
-  agree = λ d ss b. agree-if (ltb t (d .clock .0)) (replied (dropAll d) (dropAll d .sessions) _
+together-in-time t r = record {
+  agree = λ d ss b. agree-if (ltb t (d .clock .0)) (replied (dropAll d) allIdle (plain ClockWentBack)
       (before-dropped d ss b))
       (r .agree (clockStep t d) (clockStep t (withSessions d ss) .sessions) (before-stepped d ss t b));
 }

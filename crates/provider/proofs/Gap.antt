@@ -1,6 +1,6 @@
 -- Demand 3: a gap only takes away.
 -- Assumes nothing.
-use mathlib.Core.List.{List, []}
+use mathlib.Core.List.{List}
 use mathlib.Core.Logic.{inl, inr, ⊎-elim}
 use mathlib.Core.Path.{_≡_, refl, sym, ap, subst, _∙_}
 use Prim.Native.Nat.{ℕ}
@@ -11,9 +11,8 @@ use Rattle.account_keys.specs.declared.AccountKey.{AccountKey}
 use Rattle.account_keys.specs.declared.AccountKeys.{AccountKeys}
 use Rattle.account_keys.specs.declared.ListForm.{ListForm}
 use Rattle.account_keys.specs.declared.ListForm.the-variants.{WellFormed, Malformed}
-use Rattle.provider.specs.Control.{byForm, powerOn, started}
+use Rattle.provider.specs.Control.{powerOn}
 use Rattle.provider.specs.Demands.{Marked, done, same, added, written, Lists, Stores, Compared, Parting, TwoRuns, GapOnlyTakesAway}
-use Rattle.provider.specs.Device.{answers, takes}
 use Rattle.provider.specs.Event.{Event, Overflow, PowerOn, lent, step, next}
 use Rattle.provider.specs.Table.{answerOf}
 use Rattle.provider.specs.declared.Answer.the-variants.{Taken, ListMalformed}
@@ -24,7 +23,7 @@ use Rattle.provider.proofs.Agree.{Related, Parted, Agree}
 use Rattle.provider.proofs.Answers.{unlike}
 use Rattle.provider.proofs.Fewer.{fewer-dropped}
 use Rattle.provider.proofs.Stores.{member-stored, lists, stores-none}
-use Rattle.provider.proofs.Together.{before-started, step-together}
+use Rattle.provider.proofs.Together.{poweredOn, before-started, step-together}
 
 -- ---- one event
 
@@ -32,6 +31,7 @@ use Rattle.provider.proofs.Together.{before-started, step-together}
 same-keys : {d c : Device} → Related d c → c .keys ≡ d .keys
 same-keys r = ap (λ (x : Device). x .keys) (r .same)
 
+-- and write the same list
 same-written : {d c : Device} → Related d c → written c ≡ written d
 same-written r = ap (λ (ks : AccountKeys). writing (held ks)) (same-keys r)
 
@@ -61,9 +61,11 @@ module _ (d c : Device) (e : Event) (r : Related d c) (p : Parted (d .keys) (nex
   parting : Parting d c e
   parting = (p .key, parted-stores, parted-none (p .key))
 
+-- every event, from related devices on
 step-agree : (d c : Device) (e : Event) → Related d c → Agree (d .keys) (lent e) (step d e) (step c e)
 step-agree d c e r = rw (r .same) (step-together e .agree d (c .sessions) (r .before))
 
+-- what `Compared` asks of every event, the parting included
 compared : (d c : Device) (e : Event) (r : Related d c) → Agree (d .keys) (lent e) (step d e) (step c e)
     → Compared d c e
 compared d c e r a =
@@ -78,33 +80,30 @@ marker-added d c r = record {
   before = record { fewer = fewer-dropped (r .before .fewer); valid = r .before .valid };
 }
 
+-- from related devices on, the runs compare up to the parting
 two-runs : {es fs : List Event} (m : Marked es fs) (d c : Device) → Related d c → TwoRuns d c m
 two-runs done d c r = tt
 two-runs (added m) d c r = two-runs m d (next c Overflow) (marker-added d c r)
 two-runs (same e m) d c r =
     let a : Agree (d .keys) (lent e) (step d e) (step c e) = step-agree d c e r in (
       compared d c e r a,
-      ⊎-elim (λ q. inr (sym (same-written q), two-runs m (next d e) (next c e) q)) (λ p. inl (parting d c e r p))
+      ⊎-elim (λ q. inr (sym (same-written q), two-runs m (next d e) (next c e) q))
+          (λ p. inl (parting d c e r p))
           (a .left),
     )
 
--- a taken power-on read a list
-taken-reads : (d : Device) (stored : List ℕ) (start : Start) → answerOf d (PowerOn stored start) ≡ Taken
-    → (reading stored .form ≡ WellFormed) × (next d (PowerOn stored start) ≡ started (reading stored) start)
+-- the state that a taken power-on gave, in both runs
+started-related : (d : Device) (stored : List ℕ) (start : Start) → answerOf d (PowerOn stored start) ≡ Taken
+    → Related (next d (PowerOn stored start)) (next d (PowerOn stored start))
 unfolding powerOn
-taken-reads d stored start = go (reading stored .form)
+started-related d stored start = go (reading stored .form) refl
   where
-    go : (f : ListForm)
-        → byForm f (takes (started (reading stored) start)) (answers d ListMalformed []) .gives .reply .answer
-        ≡ Taken
-        → (f ≡ WellFormed)
-        × (byForm f (takes (started (reading stored) start)) (answers d ListMalformed []) .gives .next
-        ≡ started (reading stored) start)
-    go WellFormed e = (refl, refl)
-    go Malformed e = absurd (unlike ListMalformed Taken tt e)
+    go : (f : ListForm) → reading stored .form ≡ f → poweredOn d stored start f .gives .reply .answer ≡ Taken
+        → Related (poweredOn d stored start f .gives .next) (poweredOn d stored start f .gives .next)
+    go WellFormed e t = record { same = refl; before = before-started stored start e }
+    go Malformed e t = absurd (unlike ListMalformed Taken tt t)
 
 pub gap-only-takes-away : GapOnlyTakesAway
 gap-only-takes-away d stored start taken es fs m =
-    let t = taken-reads d stored start taken in
     two-runs m (next d (PowerOn stored start)) (next d (PowerOn stored start))
-    (rw (t .1) (record { same = refl; before = before-started stored start (t .0) }))
+    (started-related d stored start taken)

@@ -2,7 +2,7 @@
 -- Assumes nothing.
 use mathlib.Core.Bool.{Bool, true, false, not}
 use mathlib.Core.List.{List, [], _∷_}
-use mathlib.Core.Logic.{_⊎_, inl, inr}
+use mathlib.Core.Logic.{inl, inr}
 use mathlib.Core.Path.{_≡_, refl, ap}
 use Prim.Native.Nat.{ℕ}
 use Rattle.laws.specs.Choice.{if_then_else_}
@@ -24,37 +24,41 @@ use Rattle.sessions.specs.declared.Stage.the-variants.{Idle}
 use Rattle.account_keys.specs.Keys as keys
 use Rattle.account_keys.proofs.Laws.{stored-held}
 use Rattle.account_keys.proofs.Storing.{stores-valid}
-use Rattle.provider.proofs.Agree.{Before, Related, Parted, Agree, Together, replied, agree-if, agree-either, together-if, together-linked, before-linked}
+use Rattle.provider.proofs.Agree.{Before, Left, Agree, Together, replied, agree-if, agree-either, together-if, together-linked, before-linked}
 use Rattle.provider.proofs.Answers.{unlike}
 use Rattle.provider.proofs.Fewer.{Less, equal, lost, less-at, fewer-missed}
 use Rattle.provider.proofs.Sound.{Sound, Storable}
 
--- a rule on the session of link l that answers 9 if it is idle
-onHeld : ℕ → List ℕ → (Session → Device → Effect) → Session → Device → Effect
-onHeld l out rule s d = if isStage (s .stage) Idle then answers d LinkIdle out else rule s d
+-- a rule on a session, or 9 if it is idle
+onHeld : List ℕ → (Session → Device → Effect) → Session → Device → Effect
+onHeld out rule s d = if isStage (s .stage) Idle then answers d LinkIdle out else rule s d
 
 -- the rule in both, or 9 in the second
-on-held : (l : ℕ) {out : List ℕ} (rule : Session → Device → Effect) (d : Device) (ss : Sessions) {s u : Session}
+on-held : {out : List ℕ} (rule : Session → Device → Effect) (d : Device) (ss : Sessions) {s u : Session}
     → Less s u → Before d ss → Agree (d .keys) out (rule s d) (rule s (withSessions d ss))
     → (u .stage ≡ Idle → Agree (d .keys) out (rule s d) (answers (withSessions d ss) LinkIdle out))
-    → Agree (d .keys) out (onHeld l out rule s d) (onHeld l out rule u (withSessions d ss))
+    → Agree (d .keys) out (onHeld out rule s d) (onHeld out rule u (withSessions d ss))
 unfolding onHeld
-on-held l rule d ss {s} equal b p q = agree-if (isStage (s .stage) Idle) (replied d ss (plain LinkIdle) b) p
-on-held l rule d ss {s} (lost e) b p q =
+on-held rule d ss {s} equal b p q = agree-if (isStage (s .stage) Idle) (replied d ss (plain LinkIdle) b) p
+on-held rule d ss {s} (lost e) b p q =
     rw e (agree-either (isStage (s .stage) Idle) (replied d ss (plain LinkIdle) b) (q e))
 
 -- ---- the first run's event on a link that the second has lost
 
--- the second run's answer is 9 and the first's another one; the key list is as it was
+-- the first run's session alone changes
+before-missed : (l : ℕ) (s : Session) {d : Device} {ss : Sessions} → Before d ss → sessionAt ss l .stage ≡ Idle
+    → Before (withLink d l s) ss
+before-missed l s b e = record { fewer = fewer-missed (b .fewer) l s e; valid = b .valid }
+
+-- the second run gets 9 and the first another answer, and neither stores a key
 missed : (l : ℕ) (s : Session) (r : Reply) (d : Device) (ss : Sessions) {o out : List ℕ} → Before d ss
     → sessionAt ss l .stage ≡ Idle
     → (r .answer ≡ LinkIdle → ⊥)
     → Agree (d .keys) out (replies (withLink d l s) r o) (answers (withSessions d ss) LinkIdle out)
-missed l s r d ss b e n =
-    record { told = inr (n, refl, refl); left = inl (record { same = refl; before = before-missed }) }
-  where
-    before-missed : Before (withLink d l s) ss
-    before-missed = record { fewer = fewer-missed (b .fewer) l s e; valid = b .valid }
+missed l s r d ss b e n = record {
+  told = inr (n, refl, refl);
+  left = inl (record { same = refl; before = before-missed l s b e });
+}
 
 -- the list after an act is valid
 pub with-stored-valid : (ks : AccountKeys) (l : List AccountKey) → keys.Valid ks → All Storable l
@@ -62,28 +66,31 @@ pub with-stored-valid : (ks : AccountKeys) (l : List AccountKey) → keys.Valid 
 with-stored-valid ks [] v p = v
 with-stored-valid ks (k ∷ l) v p = stores-valid ks k v (p .0 .0) (p .0 .1)
 
--- a key that the first run stored: one that it held changes nothing, another one parts the runs
-left-missed : (l : ℕ) (s : Session) (new : List AccountKey) (d : Device) (ss : Sessions) → Before d ss
-    → All Storable new
+-- the first run alone stores a key: one that it held changes nothing, and another one parts the runs
+left-stored : (l : ℕ) (s : Session) (k : AccountKey) (d : Device) (ss : Sessions) → Before d ss → Storable k
     → sessionAt ss l .stage ≡ Idle
-    → Related (withLink (withKeys d (withStored (d .keys) new)) l s) (withSessions d ss)
-    ⊎ Parted (d .keys) (withLink (withKeys d (withStored (d .keys) new)) l s) (withSessions d ss)
-left-missed l s [] d ss b p e =
-    inl (record { same = refl; before = record { fewer = fewer-missed (b .fewer) l s e; valid = b .valid } })
-left-missed l s (k ∷ new) d ss b p e = go (member (held (d .keys)) k) refl
+    → Left (d .keys) (withLink (withKeys d (kept (stored (held (d .keys)) k))) l s) (withSessions d ss)
+left-stored l s k d ss b p e = go (member (held (d .keys)) k) refl
   where
     valid : keys.Valid (kept (stored (held (d .keys)) k))
-    valid = with-stored-valid (d .keys) (k ∷ new) (b .valid) p
+    valid = stores-valid (d .keys) k (b .valid) (p .0) (p .1)
 
     go : (m : Bool) → member (held (d .keys)) k ≡ m
-        → Related (withLink (withKeys d (withStored (d .keys) (k ∷ new))) l s) (withSessions d ss)
-        ⊎ Parted (d .keys) (withLink (withKeys d (withStored (d .keys) (k ∷ new))) l s) (withSessions d ss)
+        → Left (d .keys) (withLink (withKeys d (kept (stored (held (d .keys)) k))) l s) (withSessions d ss)
     go true q = inl (record {
       same = ap (λ (ks : AccountKeys). withKeys (withSessions d ss) ks)
           (stored-held (d .keys) k (b .valid .canonical) q);
       before = record { fewer = fewer-missed (b .fewer) l s e; valid = valid };
     })
     go false q = inr (record { key = k; new = q; first = refl; valid = valid; second = refl })
+
+-- the first run alone acts
+left-missed : (l : ℕ) (s : Session) (new : List AccountKey) (d : Device) (ss : Sessions) → Before d ss
+    → All Storable new
+    → sessionAt ss l .stage ≡ Idle
+    → Left (d .keys) (withLink (withKeys d (withStored (d .keys) new)) l s) (withSessions d ss)
+left-missed l s [] d ss b p e = inl (record { same = refl; before = before-missed l s b e })
+left-missed l s (k ∷ new) d ss b p e = left-stored l s k d ss b (p .0) e
 
 -- ---- the events
 
@@ -104,7 +111,7 @@ pub together-in-stage : (needed : Stage) (act : Session → Act) (l : ℕ) {out 
     → Together out (λ d. inStage needed act d l out)
 unfolding inStage onHeld
 together-in-stage needed act l {out} h = record {
-  agree = λ d ss b. on-held l rule d ss (less-at (b .fewer) l) b
+  agree = λ d ss b. on-held rule d ss (less-at (b .fewer) l) b
       (both (sessionAt (d .sessions) l) .agree d ss b) (one (sessionAt (d .sessions) l) d ss b);
 }
   where
@@ -129,7 +136,7 @@ together-in-stage needed act l {out} h = record {
 pub together-drops-held : (l : ℕ) → Together [] (λ d. dropsHeld d l)
 unfolding onHeld
 together-drops-held l = record {
-  agree = λ d ss b. on-held l (λ s e. takes (dropAt e l)) d ss (less-at (b .fewer) l) b
+  agree = λ d ss b. on-held (λ s e. takes (dropAt e l)) d ss (less-at (b .fewer) l) b
       (together-linked l idle (plain Taken) .agree d ss b)
       (λ e. missed l idle (plain Taken) d ss b e (unlike Taken LinkIdle tt));
 }

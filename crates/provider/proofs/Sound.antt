@@ -25,6 +25,7 @@ use Rattle.provider.proofs.Answers.{unlike}
 abbrev pub Storable : AccountKey → Type 0
 Storable k = Sized k × (getD (k .bytes) 0 0 ≡ 0x04)
 
+-- the answer is not 9, and the keys to store are sixteen bytes that begin with 0x04
 pub record Sound (a : Act) : Type 0 where
   pub answered : a .reply .answer ≡ LinkIdle → ⊥
   pub storable : All Storable (a .stored)
@@ -34,6 +35,7 @@ pub silent : {s : Session} {o : List ℕ} (r : Reply) → T (not (eqb (answerNum
     → Sound (record { reply = r; session = s; stored = []; output = o })
 silent r t = record { answered = unlike (r .answer) LinkIdle t; storable = tt }
 
+-- a test, and then one of two acts
 sound-if : (b : Bool) {x y : Act} → Sound x → (b ≡ false → Sound y) → Sound (if b then x else y)
 sound-if true p q = p
 sound-if false p q = q refl
@@ -59,6 +61,7 @@ deciphered-long : (key block : List ℕ) → length (invCipher key block) ≡ 16
 unfolding invCipher invCipherBy addRoundKey
 deciphered-long key block = refl
 
+-- of two tests that both fail, the second
 or-false : (a b : Bool) → (a or b) ≡ false → b ≡ false
 or-false true b e = absurd (subst T e tt)
 or-false false b e = e

@@ -17,7 +17,7 @@ use Rattle.key_based.specs.Request.{hasPublicKey, sized, opened, Found, found, 
 use Rattle.key_based.specs.declared.Element.{Element}
 use Rattle.provider.specs.Answers.{plain, afterTrying}
 use Rattle.provider.specs.Control.{overflow, linkChanged, pairingMode, addressRotated, factoryReset, byForm, powerOn, started}
-use Rattle.provider.specs.Device.{answers, takes, withSessions, withGuard, withKeys, withBeacon, dropAll}
+use Rattle.provider.specs.Device.{Effect, answers, takes, withSessions, withGuard, withKeys, withBeacon, dropAll}
 use Rattle.provider.specs.Event.{Event, Overflow, LinkUp, LinkDown, PairingMode, AddressRotated, PowerOn, FactoryReset, KeyBasedWrite, PairingStarted, ConfirmationNeeded, PasskeyWrite, PairingEnded, AccountKeyWrite, lent, step}
 use Rattle.provider.specs.KeyBased.{tried, asked, accepted, settled, keyBasedOn, keyBasedWrite}
 use Rattle.provider.specs.Pairing.{begun, shows, becomes, goesOn, proves, keeps, pairingStarted, confirmationNeeded, passkeyWrite, pairingEnded, accountKeyWrite}
@@ -52,6 +52,7 @@ link-changed-together l t =
     together-if (ltb 7 l) (together-refused UnknownLink) (together-in-time t
     (together-linked l idle (plain Taken)))
 
+-- a rule that changes only what is advertised
 beacon-together : (change : Beacon → Beacon) → Together [] (λ d. takes (withBeacon d (change (d .beacon))))
 beacon-together change = record {
   agree = λ d ss b. replied (withBeacon d (change (d .beacon))) ss (plain Taken)
@@ -86,37 +87,43 @@ pub before-started : (stored : List ℕ) (start : Start) → reading stored .for
     → Before (started (reading stored) start) allIdle
 before-started stored start e = record { fewer = fewer-same linkCount idle; valid = reads-valid stored e }
 
+-- what power-on does with a list that reads so
+abbrev pub poweredOn : Device → List ℕ → Start → ListForm → Effect
+poweredOn d stored start f = byForm f (takes (started (reading stored) start)) (answers d ListMalformed [])
+
 power-on-together : (stored : List ℕ) (start : Start) → Together [] (λ d. powerOn d stored start)
 unfolding powerOn
 power-on-together stored start = record { agree = λ d ss b. go d ss b (reading stored .form) refl }
   where
     go : (d : Device) (ss : Sessions) → Before d ss → (f : ListForm) → reading stored .form ≡ f
-        → Agree (d .keys) [] (byForm f (takes (started (reading stored) start)) (answers d ListMalformed []))
-        (byForm f (takes (started (reading stored) start)) (answers (withSessions d ss) ListMalformed []))
+        → Agree (d .keys) [] (poweredOn d stored start f) (poweredOn (withSessions d ss) stored start f)
     go d ss b WellFormed e = replied (started (reading stored) start) allIdle (plain Taken)
         (before-started stored start e)
     go d ss b Malformed e = replied d ss (plain ListMalformed) b
 
 -- ---- key-based write: its answer does not depend on any session
 
-guard-replied : {d : Device} {ss : Sessions} (g : Guard) → Before d ss → Before (withGuard d g) ss
-guard-replied g b = record { fewer = b .fewer; valid = b .valid }
+-- the guard is a part of its own
+before-guarded : {d : Device} {ss : Sessions} (g : Guard) → Before d ss → Before (withGuard d g) ss
+before-guarded g b = record { fewer = b .fewer; valid = b .valid }
 
+-- answers 7 and 8, and a request accepted
 settled-agree : (d : Device) (ss : Sessions) (l t : ℕ) (request salt out : List ℕ) (f : Found) → Before d ss
     → Agree (d .keys) out (settled d l t request salt out f) (settled
     (withSessions d ss) l t request salt out f)
 unfolding settled accepted
 settled-agree d ss l t request salt out (nothing n) b =
     replied (withGuard d (failedAt t (d .guard))) ss (afterTrying n NoKeyFits)
-    (guard-replied (failedAt t (d .guard)) b)
+    (before-guarded (failedAt t (d .guard)) b)
 settled-agree d ss l t request salt out (found n key) b =
     agree-if (spent (remembered (d .guard .spent)) (requestSalt (opened key request)))
     (replied d ss (afterTrying n SaltSpent) b)
     (together-linked l (asked key t)
     (record { answer = Taken; tried = n; bond = bondAsked (opened key request); confirm = Unasked }) .agree
     (withGuard d (acceptedWith (requestSalt (opened key request)) (d .guard))) ss
-    (guard-replied (acceptedWith (requestSalt (opened key request)) (d .guard)) b))
+    (before-guarded (acceptedWith (requestSalt (opened key request)) (d .guard)) b))
 
+-- answers 5 and 6, and what comes then
 key-based-on-together : (l t : ℕ) (request : List ℕ) (element : Element) (salt out : List ℕ)
     → Together out (λ d. keyBasedOn d l t request element salt out)
 unfolding keyBasedOn tried
