@@ -1,6 +1,6 @@
 -- An event on one link leaves the other links' keys and stages as they are, timers and answer 4 apart.
 -- Assumes nothing.
-use mathlib.Core.Bool.{Bool, true, not}
+use mathlib.Core.Bool.{Bool, true, not, false}
 use mathlib.Core.List.{List, []}
 use mathlib.Core.Logic.{_⊎_, inl, inr}
 use mathlib.Core.Path.{_≡_, refl, ap, _∙_}
@@ -8,20 +8,22 @@ use Prim.Native.Nat.{ℕ}
 use lib.Dec.{ltb}
 use lib.ListN.{length}
 use Rattle.laws.proofs.Choice.{if-holds, true-is}
-use Rattle.laws.specs.Choice.{_and_}
+use Rattle.laws.specs.Choice.{if_then_else_, _and_}
 use Rattle.key_based.specs.Request.{hasPublicKey, sized, opened, Found, found, nothing, requestSalt}
 use Rattle.key_based.specs.declared.Element.{Element}
 use Rattle.provider.specs.Control.{linkChanged}
 use Rattle.provider.specs.Demands.{LinksApart}
-use Rattle.provider.specs.Device.{Effect, clockStep, inTime}
+use Rattle.provider.specs.Device.{replies, Effect, clockStep, inTime}
 use Rattle.provider.specs.Event.{Event, Overflow, LinkUp, LinkDown, PairingMode, AddressRotated, PowerOn, FactoryReset, KeyBasedWrite, PairingStarted, ConfirmationNeeded, PasskeyWrite, PairingEnded, AccountKeyWrite, step}
 use Rattle.provider.specs.KeyBased.{tried, asked, accepted, settled, keyBasedOn, keyBasedWrite}
 use Rattle.provider.specs.Kinds.{isOnLink, linkOf, clockOf}
 use Rattle.provider.specs.Pairing.{Act, isStage, inStage, begun, shows, proves, keeps, goesOn, becomes, pairingStarted, confirmationNeeded, passkeyWrite, pairingEnded, accountKeyWrite}
+use Rattle.provider.specs.Table.{sessionAfter}
 use Rattle.provider.specs.declared.Answer.the-variants.{ClockWentBack}
 use Rattle.provider.specs.declared.Device.{Device}
+use Rattle.provider.specs.declared.Reply.{Reply}
 use Rattle.request_guard.specs.Guard.{remembered, spent, locked}
-use Rattle.sessions.specs.Sessions.{idle, sessionAt, withSession, atClock}
+use Rattle.sessions.specs.Sessions.{expired, idle, sessionAt, withSession, atClock}
 use Rattle.sessions.specs.declared.Session.{Session}
 use Rattle.sessions.specs.declared.Sessions.{Sessions}
 use Rattle.sessions.specs.declared.Stage.{Stage}
@@ -34,103 +36,104 @@ record Apart (d : Device) (l t : ℕ) (x : Effect) : Type 0 where
       → (sessionAt (x .gives .next .sessions) l ≡ sessionAt (d .sessions) l)
       ⊎ (sessionAt (x .gives .next .sessions) l ≡ atClock t (sessionAt (d .sessions) l))
 
--- the link m of the event is another than l
-module _ {d : Device} {l m t : ℕ} (h : m ≡ l → ⊥) where
-  -- a refusal before the clock step
-  before : {x : Effect} → x .gives .next .sessions ≡ d .sessions → Apart d l t x
-  before e = record { kept = λ _. inl (ap (λ (ss : Sessions). sessionAt ss l) e) }
+module _ {d : Device} {l t : ℕ} where
+  apart-if : (b : Bool) {x y : Effect} → Apart d l t x → Apart d l t y → Apart d l t (if b then x else y)
+  apart-if b p q = if-holds (Apart d l t) b p (λ _. q)
 
-  -- after the clock step: no link is changed, or link m
-  stepped : {x : Effect} → x .gives .next .sessions ≡ clockStep t d .sessions → Apart d l t x
-  unfolding clockStep
+  -- a refusal before the clock step
+  refused : {r : Reply} {out : List ℕ} → Apart d l t (replies d r out)
+  refused = record { kept = λ _. inl refl }
+
+  -- the clock step alone
+  stepped : {x : Effect} → x .gives .next .sessions ≡ expired t (d .sessions) → Apart d l t x
   stepped e = record {
     kept = λ _. inr (ap (λ (ss : Sessions). sessionAt ss l) e ∙ expired-at t
         (d .sessions) l);
   }
 
-  changed : (s : Session) {x : Effect} → x .gives .next .sessions ≡ withSession (clockStep t d .sessions) m s
-      → Apart d l t x
-  unfolding clockStep
-  changed s e =
-      record {
-        kept = λ _. inr (ap (λ (ss : Sessions). sessionAt ss l) e ∙ other-link
-            (clockStep t d .sessions) m l s h ∙ expired-at t (d .sessions) l);
-      }
-
+  -- answer 4
   apart-clock : (out : List ℕ) (rest : Device → Effect) → Apart d l t (rest (clockStep t d)) → Apart d l t
       (inTime d t out rest)
   unfolding inTime
-  apart-clock out rest p = if-holds (Apart d l t) (ltb t (d .clock .0))
-      (record { kept = λ k. absurd (k refl) }) (λ _. p)
+  apart-clock out rest p = apart-if (ltb t (d .clock .0)) (record { kept = λ k. absurd (k refl) }) p
 
+-- the event's link m is another than l
+module _ {d : Device} {l m t : ℕ} (h : m ≡ l → ⊥) where
+  -- the clock step, and another session on link m
+  changed : (s : Session) {x : Effect} → x .gives .next .sessions ≡ withSession (expired t (d .sessions)) m s
+      → Apart d l t x
+  changed s e =
+      record {
+        kept = λ _. inr (ap (λ (ss : Sessions). sessionAt ss l) e ∙ other-link
+            (expired t (d .sessions)) m l s h ∙ expired-at t (d .sessions) l);
+      }
+
+  -- answers 9 and 10
   apart-stage : (needed : Stage) (act : Session → Act) (out : List ℕ) → Apart d l t
       (inStage needed act (clockStep t d) m out)
-  unfolding inStage
+  unfolding inStage clockStep
   apart-stage needed act out =
-      if-holds (Apart d l t) (isStage (sessionAt (clockStep t d .sessions) m .stage) Idle) (stepped refl)
-      (λ _. if-holds (Apart d l t) (not (isStage (sessionAt (clockStep t d .sessions) m .stage) needed))
-      (changed idle refl)
-      (λ _. changed (act (sessionAt (clockStep t d .sessions) m) .session) refl))
+      apart-if (isStage (sessionAfter d m t .stage) Idle) (stepped refl)
+      (apart-if (not (isStage (sessionAfter d m t .stage) needed)) (changed idle refl)
+      (changed (act (sessionAfter d m t) .session) refl))
 
+  -- answers 7 and 8
   apart-settled : (request salt out : List ℕ) (f : Found) → Apart d l t
       (settled (clockStep t d) m t request salt out f)
-  unfolding settled accepted
+  unfolding settled accepted clockStep
   apart-settled request salt out (nothing n) = stepped refl
   apart-settled request salt out (found n key) =
-      if-holds (Apart d l t) (spent (remembered (clockStep t d .guard .spent))
-      (requestSalt (opened key request))) (stepped refl)
-      (λ _. changed (asked key t) refl)
+      apart-if (spent (remembered (clockStep t d .guard .spent)) (requestSalt (opened key request)))
+      (stepped refl)
+      (changed (asked key t) refl)
 
   apart-link : Apart d l t (linkChanged d m t)
-  unfolding linkChanged
-  apart-link = if-holds (Apart d l t) (ltb 7 m) (before refl) (λ _. apart-clock [] _ (changed idle refl))
+  unfolding linkChanged clockStep
+  apart-link = apart-if (ltb 7 m) refused (apart-clock [] _ (changed idle refl))
 
   apart-request : (request : List ℕ) (element : Element) (salt out : List ℕ) → Apart d l t
       (keyBasedWrite d m t request element salt out)
-  unfolding keyBasedWrite keyBasedOn
+  unfolding keyBasedWrite keyBasedOn clockStep
   apart-request request element salt out =
-      if-holds (Apart d l t) (ltb 7 m) (before refl)
-      (λ _. if-holds (Apart d l t) (not (sized request)) (before refl)
-      (λ _. if-holds (Apart d l t) (ltb (length out) 16) (before refl)
-      (λ _. apart-clock out _ (if-holds (Apart d l t) (locked (clockStep t d .guard)) (stepped refl)
-      (λ _. if-holds (Apart d l t) (hasPublicKey request and not (clockStep t d .beacon .pairing))
-      (stepped refl)
-      (λ _. apart-settled request salt out (tried (clockStep t d) element request)))))))
+      apart-if (ltb 7 m) refused
+      (apart-if (not (sized request)) refused
+      (apart-if (ltb (length out) 16) refused
+      (apart-clock out _
+      (apart-if (locked (clockStep t d .guard)) (stepped refl)
+      (apart-if (hasPublicKey request and not (clockStep t d .beacon .pairing)) (stepped refl)
+      (apart-settled request salt out (tried (clockStep t d) element request)))))))
 
   apart-started : (capability : ℕ) → Apart d l t (pairingStarted d m t capability)
   unfolding pairingStarted
   apart-started capability =
-      if-holds (Apart d l t) (ltb 7 m) (before refl) (λ _. apart-clock [] _
-      (apart-stage Asked (begun t capability) []))
+      apart-if (ltb 7 m) refused (apart-clock [] _ (apart-stage Asked (begun t capability) []))
 
   apart-confirmation : (passkey : ℕ) → Apart d l t (confirmationNeeded d m t passkey)
   unfolding confirmationNeeded
   apart-confirmation passkey =
-      if-holds (Apart d l t) (ltb 7 m) (before refl)
-      (λ _. if-holds (Apart d l t) (ltb 999999 passkey) (before refl)
-      (λ _. apart-clock [] _ (apart-stage Pairing (shows t passkey) [])))
+      apart-if (ltb 7 m) refused
+      (apart-if (ltb 999999 passkey) refused (apart-clock [] _ (apart-stage Pairing (shows t passkey) [])))
 
   apart-passkey : (block salt out : List ℕ) → Apart d l t (passkeyWrite d m t block salt out)
   unfolding passkeyWrite
   apart-passkey block salt out =
-      if-holds (Apart d l t) (ltb 7 m) (before refl)
-      (λ _. if-holds (Apart d l t) (ltb (length out) 16) (before refl)
-      (λ _. apart-clock out _ (apart-stage Confirming (proves t block salt out) out)))
+      apart-if (ltb 7 m) refused
+      (apart-if (ltb (length out) 16) refused
+      (apart-clock out _ (apart-stage Confirming (proves t block salt out) out)))
 
   apart-ended : (success : Bool) → Apart d l t (pairingEnded d m t success)
-  unfolding pairingEnded
-  apart-ended success =
-      if-holds (Apart d l t) (ltb 7 m) (before refl)
-      (λ _. apart-clock [] _ (if-holds (Apart d l t) success (apart-stage Proved
-      (λ s. goesOn (becomes Paired t s) []) [])
-      (λ _. if-holds (Apart d l t) (isStage (sessionAt (clockStep t d .sessions) m .stage) Idle) (stepped refl)
-      (λ _. changed idle refl))))
+  unfolding pairingEnded clockStep
+  apart-ended true =
+      apart-if (ltb 7 m) refused (apart-clock [] _ (apart-stage Proved
+      (λ s. goesOn (becomes Paired t s) []) []))
+  apart-ended false =
+      apart-if (ltb 7 m) refused
+      (apart-clock [] _ (apart-if (isStage (sessionAfter d m t .stage) Idle) (stepped refl)
+      (changed idle refl)))
 
   apart-account : (block : List ℕ) → Apart d l t (accountKeyWrite d m t block)
   unfolding accountKeyWrite
-  apart-account block =
-      if-holds (Apart d l t) (ltb 7 m) (before refl) (λ _. apart-clock [] _
-      (apart-stage Paired (keeps block) []))
+  apart-account block = apart-if (ltb 7 m) refused (apart-clock [] _ (apart-stage Paired (keeps block) []))
 
 -- every event on a link
 apart : (d : Device) (e : Event) (l : ℕ) → isOnLink e ≡ true → (linkOf e ≡ l → ⊥) → Apart d l (clockOf e)

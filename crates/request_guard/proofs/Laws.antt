@@ -53,8 +53,7 @@ module _ (g : Guard) (v : Valid g) where
       record {
         few = few;
         whole = salts-kept (remembering (remembered (g .spent)) s);
-        bounded = omega
-            arith;
+        bounded = omega arith;
         cleared = λ e. refl;
       }
 
@@ -63,8 +62,7 @@ module _ (g : Guard) (v : Valid g) where
       record {
         few = v .few;
         whole = v .whole;
-        bounded = omega
-            (arith, v .bounded, eqb-false (g .failures .count) 10 e);
+        bounded = omega (arith, v .bounded, eqb-false (g .failures .count) 10 e);
         cleared = λ h. absurd (omega arith);
       }
 
