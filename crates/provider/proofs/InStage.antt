@@ -12,11 +12,11 @@ use Rattle.account_keys.specs.declared.AccountKey.{AccountKey}
 use Rattle.account_keys.specs.declared.AccountKeys.{AccountKeys}
 use Rattle.provider.specs.Answers.{plain}
 use Rattle.provider.specs.Device.{Effect, replies, answers, takes, withSessions, withKeys, withLink, dropAt}
-use Rattle.provider.specs.Pairing.{Act, acted, withStored, isStage, inStage, dropsHeld}
+use Rattle.provider.specs.Pairing.{Act, acted, withStored, inStage, dropsHeld}
 use Rattle.provider.specs.declared.Answer.the-variants.{Taken, LinkIdle, WrongStage}
 use Rattle.provider.specs.declared.Device.{Device}
 use Rattle.provider.specs.declared.Reply.{Reply}
-use Rattle.sessions.specs.Sessions.{idle, sessionAt}
+use Rattle.sessions.specs.Sessions.{isStage, idle, sessionAt}
 use Rattle.sessions.specs.declared.Session.{Session}
 use Rattle.sessions.specs.declared.Sessions.{Sessions}
 use Rattle.sessions.specs.declared.Stage.{Stage}

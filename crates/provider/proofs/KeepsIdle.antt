@@ -19,13 +19,13 @@ use Rattle.provider.specs.Device.{Effect, replies, answers, takes, dropA
 use Rattle.provider.specs.Event.{Event, Overflow, LinkUp, LinkDown, PairingMode, AddressRotated, PowerOn, FactoryReset, KeyBasedWrite, PairingStarted, ConfirmationNeeded, PasskeyWrite, PairingEnded, AccountKeyWrite, step}
 use Rattle.provider.specs.KeyBased.{tried, asked, accepted, settled, keyBasedOn, keyBasedWrite}
 use Rattle.provider.specs.Kinds.{isRequestOn}
-use Rattle.provider.specs.Pairing.{Act, isStage, inStage, begun, shows, becomes, goesOn, proves, keeps, pairingStarted, confirmationNeeded, passkeyWrite, pairingEnded, dropsHeld, accountKeyWrite}
+use Rattle.provider.specs.Pairing.{Act, inStage, begun, shows, goesOn, proves, keeps, pairingStarted, confirmationNeeded, passkeyWrite, pairingEnded, dropsHeld, accountKeyWrite}
 use Rattle.provider.specs.declared.Answer.the-variants.{Taken, WrongStage, ListMalformed}
 use Rattle.provider.specs.declared.Device.{Device}
 use Rattle.provider.specs.declared.Reply.{Reply}
 use Rattle.provider.specs.declared.Start.{Start}
 use Rattle.request_guard.specs.Guard.{remembered, spent, locked}
-use Rattle.sessions.specs.Sessions.{linkCount, idle, allIdle, nowhere, sessionAt, atClock}
+use Rattle.sessions.specs.Sessions.{isStage, becomes, linkCount, idle, allIdle, nowhere, sessionAt, atClock}
 use Rattle.sessions.specs.declared.Session.{Session}
 use Rattle.sessions.specs.declared.Stage.{Stage}
 use Rattle.sessions.specs.declared.Stage.the-variants.{Idle, Asked, Pairing, Confirming, Proved, Paired}
@@ -154,7 +154,7 @@ unfolding powerOn
 keeps-power-on stored start {Asks} {l} = record { stays = λ d e. go d e (reading stored .form) }
   where
     go : (d : Device) → IdleAt l d → (f : ListForm)
-        → StaysIdle Asks l (byForm f (takes (started (reading stored) start)) (answers d ListMalformed []))
+        → StaysIdle Asks l (byForm f (takes (started (reading stored .keys) start)) (answers d ListMalformed []))
     go d e WellFormed = still (all-idle linkCount l)
     go d e Malformed = still e
 

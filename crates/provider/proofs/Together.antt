@@ -20,7 +20,7 @@ use Rattle.provider.specs.Control.{overflow, linkChanged, pairingMode, a
 use Rattle.provider.specs.Device.{Effect, answers, takes, withSessions, withGuard, withKeys, withBeacon, dropAll}
 use Rattle.provider.specs.Event.{Event, Overflow, LinkUp, LinkDown, PairingMode, AddressRotated, PowerOn, FactoryReset, KeyBasedWrite, PairingStarted, ConfirmationNeeded, PasskeyWrite, PairingEnded, AccountKeyWrite, lent, step}
 use Rattle.provider.specs.KeyBased.{tried, asked, accepted, settled, keyBasedOn, keyBasedWrite}
-use Rattle.provider.specs.Pairing.{begun, shows, becomes, goesOn, proves, keeps, pairingStarted, confirmationNeeded, passkeyWrite, pairingEnded, accountKeyWrite}
+use Rattle.provider.specs.Pairing.{begun, shows, goesOn, proves, keeps, pairingStarted, confirmationNeeded, passkeyWrite, pairingEnded, accountKeyWrite}
 use Rattle.provider.specs.declared.Answer.the-variants.{Taken, UnknownLink, WrongLength, PasskeyTooLarge, LockedOut, NotInPairingMode, NoKeyFits, SaltSpent, OutputTooShort, ListMalformed}
 use Rattle.provider.specs.declared.Beacon.{Beacon}
 use Rattle.provider.specs.declared.Confirm.the-variants.{Unasked}
@@ -28,7 +28,7 @@ use Rattle.provider.specs.declared.Device.{Device}
 use Rattle.provider.specs.declared.Start.{Start}
 use Rattle.request_guard.specs.Guard.{remembered, spent, locked, failedAt, acceptedWith, fresh}
 use Rattle.request_guard.specs.declared.Guard.{Guard}
-use Rattle.sessions.specs.Sessions.{linkCount, idle, allIdle}
+use Rattle.sessions.specs.Sessions.{becomes, linkCount, idle, allIdle}
 use Rattle.sessions.specs.declared.Sessions.{Sessions}
 use Rattle.sessions.specs.declared.Stage.the-variants.{Asked, Pairing, Confirming, Proved, Paired}
 use Rattle.account_keys.specs.Keys as keys
@@ -84,12 +84,12 @@ factory-reset-together t = together-in-time t (record {
 
 -- both runs have the device that power-on made
 pub before-started : (stored : List ℕ) (start : Start) → reading stored .form ≡ WellFormed
-    → Before (started (reading stored) start) allIdle
+    → Before (started (reading stored .keys) start) allIdle
 before-started stored start e = record { fewer = fewer-same linkCount idle; valid = reads-valid stored e }
 
 -- what power-on does with a list that reads so
 abbrev pub poweredOn : Device → List ℕ → Start → ListForm → Effect
-poweredOn d stored start f = byForm f (takes (started (reading stored) start)) (answers d ListMalformed [])
+poweredOn d stored start f = byForm f (takes (started (reading stored .keys) start)) (answers d ListMalformed [])
 
 power-on-together : (stored : List ℕ) (start : Start) → Together [] (λ d. powerOn d stored start)
 unfolding powerOn
@@ -97,7 +97,7 @@ power-on-together stored start = record { agree = λ d ss b. go d ss b (reading 
   where
     go : (d : Device) (ss : Sessions) → Before d ss → (f : ListForm) → reading stored .form ≡ f
         → Agree (d .keys) [] (poweredOn d stored start f) (poweredOn (withSessions d ss) stored start f)
-    go d ss b WellFormed e = replied (started (reading stored) start) allIdle (plain Taken)
+    go d ss b WellFormed e = replied (started (reading stored .keys) start) allIdle (plain Taken)
         (before-started stored start e)
     go d ss b Malformed e = replied d ss (plain ListMalformed) b
 
