@@ -128,12 +128,16 @@ abbrev pub dropsHeld : Device → ℕ → Effect
 dropsHeld d l =
     if isStage (sessionAt (d .sessions) l .stage) Idle then answers d LinkIdle [] else takes (dropAt d l)
 
+-- "Success: proved to paired."
+abbrev pub pairs : ℕ → Session → Act
+pairs t s = goesOn (becomes Paired t s) []
+
 -- "Pairing ended. Success: proved to paired. Failure: K dropped in any stage, answer 0."
 unfoldable pub pairingEnded : Device → ℕ → ℕ → Bool → Effect
 pairingEnded d l t success =
     if ltb 7 l then answers d UnknownLink [] else
     inTime d t []
-    (λ e. if success then inStage Proved (λ s. goesOn (becomes Paired t s) []) e l [] else dropsHeld e l)
+    (λ e. if success then inStage Proved (pairs t) e l [] else dropsHeld e l)
 
 -- "In paired, decrypt 16 bytes. Byte 0 must be 0x04 .. K is dropped whatever the answer from 0 or 9 to 12."
 unfoldable pub keeps : List ℕ → Session → Act
