@@ -14,7 +14,7 @@ use Rattle.account_keys.specs.Keys.{Sized, owned, kept}
 use Rattle.account_keys.specs.declared.AccountKey.{AccountKey}
 use Rattle.account_keys.specs.declared.AccountKeys.{AccountKeys}
 use Rattle.account_keys.specs.declared.Reading.{Reading}
-use Rattle.provider.specs.Control.{started}
+use Rattle.provider.specs.Control.{started, off}
 use Rattle.provider.specs.Demands.{Canonical, Valid}
 use Rattle.provider.specs.Device.{withSessions, dropAt, withLink, withKeys, withGuard, withBeacon, dropAll, clockStep}
 use Rattle.provider.specs.Pairing.{withStored}
@@ -42,6 +42,9 @@ in-a-stage s h e =
 
 pub idle-holds-nothing : Canonical idle
 idle-holds-nothing e = refl
+
+all-idle : All Canonical (allIdle .links)
+all-idle = all-replicate Canonical linkCount idle idle-holds-nothing
 
 pub no-keys-valid : keys.Valid (kept [])
 unfolding owned
@@ -80,7 +83,7 @@ module _ {d : Device} (v : Valid d) where
   dropAt-valid l = link-valid l idle idle-holds-nothing
 
   pub dropAll-valid : Valid (dropAll d)
-  dropAll-valid = sessions-valid allIdle refl (all-replicate Canonical linkCount idle idle-holds-nothing)
+  dropAll-valid = sessions-valid allIdle refl all-idle
 
   pub clockStep-valid : (t : ℕ) → Valid (clockStep t d)
   unfolding clockStep
@@ -94,5 +97,8 @@ module _ {d : Device} (v : Valid d) where
 -- power-on with a valid list
 pub started-valid : (r : Reading) (s : Start) → keys.Valid (r .keys) → Valid (started r s)
 started-valid r s p =
-    let held : All Canonical (allIdle .links) = all-replicate Canonical linkCount idle idle-holds-nothing in
-    record { keys = p; links = refl; sessions = held; guard = fresh-valid }
+    record { keys = p; links = refl; sessions = all-idle; guard = fresh-valid }
+
+-- the value before any device
+pub off-valid : Valid off
+off-valid = record { keys = no-keys-valid; links = refl; sessions = all-idle; guard = fresh-valid }
