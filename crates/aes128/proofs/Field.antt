@@ -7,7 +7,8 @@ use native.Mathlib.Omega.{arith}
 use lib.Dec.{lit<}
 use lib.Bits.{xor-lt, xor-shr, xor-mod}
 use Rattle.laws.proofs.Additive.{Additive}
-use Rattle.laws.proofs.Xor.{by-bits, xor-exchange, xor-shl}
+use Rattle.laws.proofs.Bitwise.{by-bits}
+use Rattle.laws.proofs.Xor.{xor-exchange, xor-shl}
 use Rattle.aes128.specs.Field.{_⊕_, _•_, bit, xTimes, plusIf, product}
 
 shifted : (a b : ℕ) → (a ⊕ b) * 2 % 256 ≡ a * 2 % 256 ⊕ b * 2 % 256

@@ -14,7 +14,8 @@ use mir.Syntax.{w8}
 use mir.Val.{Fits}
 use Rattle.laws.specs.Tabulate.{tabulate}
 use Rattle.laws.proofs.Filled.{getD-tabulate, tabulate-ext, Filled}
-use Rattle.laws.proofs.Xor.{by-bit, xor-left, xor-turn}
+use Rattle.laws.proofs.Bitwise.{by-bit}
+use Rattle.laws.proofs.Xor.{xor-left, xor-turn}
 use Rattle.aes128.specs.Cipher.{keyExpansion, rounds, cipherBy, cipher, invRounds, invCipherBy, invCipher}
 use Rattle.aes128.specs.Field.{_⊕_, _•_, xTimes, product}
 use Rattle.aes128.specs.KeyExpansion.{subWord, xPower, word, roundKey}

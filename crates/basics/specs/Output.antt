@@ -14,11 +14,15 @@ abbrev pub outputNumber : Output → ℕ
 outputNumber Written = 0
 outputNumber TooShort = 13
 
+abbrev pub tooShort : Report
+tooShort = record { output = TooShort; length = 0 }
+
+abbrev pub written : ℕ → Report
+written n = record { output = Written; length = n }
+
 -- "Answer 13 if the output is shorter than the whole structure"; the length is handed out with 0
 abbrev pub reportOf : List ℕ → List ℕ → Report
-reportOf text out =
-    if leb (length text) (length out) then record { output = Written; length = length text } else
-    record { output = TooShort; length = 0 }
+reportOf text out = if leb (length text) (length out) then written (length text) else tooShort
 
 -- "Bytes past those written stay", and a refusal writes nothing
 abbrev pub placed : List ℕ → List ℕ → List ℕ

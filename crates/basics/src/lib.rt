@@ -4,6 +4,7 @@ ghost use Prim.Native.Nat.{_+_, _-_, _≤_};
 ghost use lib.ListN.{length};
 ghost use lib.Seq.{paste};
 ghost use Rattle.basics.specs.Bytes as spec;
+ghost use Rattle.basics.specs.Output as output;
 
 // The number of a link, of which 0 to 7 exist.
 pub struct Link(pub u8);
@@ -26,6 +27,26 @@ pub enum Output {
 pub struct Report {
     pub output: Output,
     pub length: usize,
+}
+
+// The report of an output too short for the text.
+pub fn too_short() -> Report
+    ensures { λ r. ⌜ r ≡ output.tooShort ⌝ }
+{
+    Report {
+        output: Output::TooShort,
+        length: 0,
+    }
+}
+
+// The report of a text of `length` bytes that was written.
+pub fn written(length: usize) -> Report
+    ensures { λ r. ⌜ r ≡ output.written length ⌝ }
+{
+    Report {
+        output: Output::Written,
+        length: length,
+    }
 }
 
 // Whether two byte strings are equal: addresses, salts and keys are compared here.

@@ -8,7 +8,7 @@ use native.Mathlib.Omega.{arith}
 use lib.Arith.{lt-one}
 use lib.Bits.{bitXor, xor-self, xor-shifted}
 use lib.Pow.{pow-pos, shr-lt, split}
-use Rattle.laws.proofs.Xor.{by-bit}
+use Rattle.laws.proofs.Bitwise.{by-bit}
 
 pub record Additive (f : ℕ → ℕ) : Type 0 where
   pub adds : (a b : ℕ) → f (bitXor a b) ≡ bitXor (f a) (f b)

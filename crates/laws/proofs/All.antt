@@ -38,3 +38,7 @@ module _ {ℓ} {A : Type ℓ} (P : A → Type 0) where
   pub all-append : (a b : List A) → All P a → All P b → All P (a ++ b)
   all-append [] b p q = q
   all-append (x ∷ xs) b p q = (p .0, all-append xs b (p .1) q)
+
+pub all-map {ℓ} : {A : Type ℓ} (P Q : A → Type 0) → ((a : A) → P a → Q a) → (l : List A) → All P l → All Q l
+all-map P Q f [] p = tt
+all-map P Q f (x ∷ xs) p = (f x (p .0), all-map P Q f xs (p .1))

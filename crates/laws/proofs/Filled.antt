@@ -30,9 +30,13 @@ pub tabulate-getD : {A : Type 0} (l : List A) (d : A) → tabulate (length l) (�
 tabulate-getD [] d = refl
 tabulate-getD (x ∷ l) d = ap (λ t. x ∷ t) (tabulate-getD l d)
 
+-- a list whose places are written out
+pub listed : {A : Type 0} (n : ℕ) (l : List A) (d : A) → length l ≡ n → tabulate n (λ i. getD l i d) ≡ l
+listed n l d e = rw (← e) (tabulate-getD l d)
+
 -- what holds of each value, and of the value past the end, holds at every place
-pub tabulate-all : {A : Type 0} (P : A → Type 0) (n : ℕ) (f : ℕ → A) (d : A)
-    → P d → ((i : ℕ) → P (f i)) → (i : ℕ) → P (getD (tabulate n f) i d)
+pub tabulate-all : {A : Type 0} (P : A → Type 0) (n : ℕ) (f : ℕ → A) (d : A) → P d → ((i : ℕ) → P (f i)) →
+    (i : ℕ) → P (getD (tabulate n f) i d)
 tabulate-all P zero f d p q i = p
 tabulate-all P (suc n) f d p q zero = q zero
 tabulate-all P (suc n) f d p q (suc i) = tabulate-all P n (λ k. f (suc k)) d p (λ k. q (suc k)) i

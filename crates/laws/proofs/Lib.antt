@@ -1,10 +1,14 @@
 pub mod Additive
 pub mod All
 pub mod BigEndian
+pub mod Bitwise
 pub mod Choice
 pub mod Filled
+pub mod Folds
+pub mod Growing
 pub mod Lists
 pub mod Loops
+pub mod Or
 pub mod Padded
 pub mod Several
 pub mod Table

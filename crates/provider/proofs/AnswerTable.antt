@@ -19,11 +19,12 @@ use Rattle.provider.specs.Device.{answers, takes, clockStep}
 use Rattle.provider.specs.Event.{Event, Overflow, LinkUp, LinkDown, PairingMode, AddressRotated, PowerOn, FactoryReset, KeyBasedWrite, PairingStarted, ConfirmationNeeded, PasskeyWrite, PairingEnded, AccountKeyWrite, lent, step}
 use Rattle.provider.specs.KeyBased.{tried, accepted, settled, keyBasedOn, keyBasedWrite}
 use Rattle.provider.specs.Kinds.{linkOf, clockOf}
-use Rattle.provider.specs.Pairing.{Act, isStage, refusedCapability, badBlock, begun, shows, proves, keeps, goesOn, becomes, passkeyIn, pairingStarted, confirmationNeeded, passkeyWrite, pairingEnded, accountKeyWrite}
+use Rattle.provider.specs.Pairing.{Act, refusedCapability, badBlock, begun, shows, proves, keeps, goesOn, passkeyIn, pairingStarted, confirmationNeeded, passkeyWrite, pairingEnded, accountKeyWrite}
 use Rattle.provider.specs.Table.{AnswerTable, Refusals, row, malformed, noneFits, saltKnown, sessionAfter, rows}
 use Rattle.provider.specs.declared.Answer.the-variants.{Taken, UnknownLink, WrongLength, PasskeyTooLarge, LockedOut, NotInPairingMode, NoKeyFits, SaltSpent, LinkIdle, CapabilityRefused, BadBlock, OutputTooShort, ListMalformed}
 use Rattle.provider.specs.declared.Device.{Device}
 use Rattle.request_guard.specs.Guard.{remembered, spent, locked}
+use Rattle.sessions.specs.Sessions.{isStage, becomes}
 use Rattle.sessions.specs.declared.Stage.the-variants.{Idle, Asked, Pairing, Confirming, Proved, Paired}
 use Rattle.provider.proofs.Rows.{Told, told-taken, told-here, told-later, told-reply, told-row, told-clock, told-stage, told-drops}
 
@@ -129,7 +130,7 @@ told d (LinkUp l t) = told-link d l t
 told d (LinkDown l t) = told-link d l t
 told d (PairingMode on t) = told-clock _ (told-taken refl)
 told d (AddressRotated ble salt t) = told-clock _ (told-taken refl)
-told d (PowerOn stored start) = told-form d (reading stored .form) (started (reading stored) start)
+told d (PowerOn stored start) = told-form d (reading stored .form) (started (reading stored .keys) start)
 told d (FactoryReset t) = told-clock _ (told-taken refl)
 told d (KeyBasedWrite l t request element salt out) = told-request d l t request element salt out
 told d (PairingStarted l t capability) = told-started d l t capability

@@ -13,7 +13,6 @@ use Rattle.laws.specs.Lists.{All}
 use Rattle.account_keys.specs.Keys.{Sized, owned, kept}
 use Rattle.account_keys.specs.declared.AccountKey.{AccountKey}
 use Rattle.account_keys.specs.declared.AccountKeys.{AccountKeys}
-use Rattle.account_keys.specs.declared.Reading.{Reading}
 use Rattle.provider.specs.Control.{started, off}
 use Rattle.provider.specs.Demands.{Canonical, Valid}
 use Rattle.provider.specs.Device.{withSessions, dropAt, withLink, withKeys, withGuard, withBeacon, dropAll, clockStep}
@@ -95,9 +94,8 @@ module _ {d : Device} (v : Valid d) where
       record { keys = v .keys; links = links; sessions = held; guard = clock-valid (d .guard) (v .guard) t }
 
 -- power-on with a valid list
-pub started-valid : (r : Reading) (s : Start) → keys.Valid (r .keys) → Valid (started r s)
-started-valid r s p =
-    record { keys = p; links = refl; sessions = all-idle; guard = fresh-valid }
+pub started-valid : (ks : AccountKeys) (s : Start) → keys.Valid ks → Valid (started ks s)
+started-valid ks s p = record { keys = p; links = refl; sessions = all-idle; guard = fresh-valid }
 
 -- the value before any device
 pub off-valid : Valid off

@@ -23,12 +23,12 @@ use Rattle.provider.specs.Demands.{Canonical, Valid, StaysValid, StartsV
 use Rattle.provider.specs.Device.{dropAt, replies, Effect, answers, takes, withKeys, withGuard, clockStep, inTime}
 use Rattle.provider.specs.Event.{Event, Overflow, LinkUp, LinkDown, PairingMode, AddressRotated, PowerOn, FactoryReset, KeyBasedWrite, PairingStarted, ConfirmationNeeded, PasskeyWrite, PairingEnded, AccountKeyWrite, step}
 use Rattle.provider.specs.KeyBased.{tried, asked, accepted, settled, keyBasedOn, keyBasedWrite}
-use Rattle.provider.specs.Pairing.{Act, withStored, acted, isStage, inStage, refusedCapability, badBlock, begun, shows, proves, keeps, goesOn, becomes, passkeyIn, pairingStarted, confirmationNeeded, passkeyWrite, pairingEnded, accountKeyWrite}
+use Rattle.provider.specs.Pairing.{Act, withStored, acted, inStage, refusedCapability, badBlock, begun, shows, proves, keeps, goesOn, passkeyIn, pairingStarted, confirmationNeeded, passkeyWrite, pairingEnded, accountKeyWrite}
 use Rattle.provider.specs.declared.Answer.the-variants.{Taken, ListMalformed}
 use Rattle.provider.specs.declared.Device.{Device}
 use Rattle.provider.specs.declared.Reply.{Reply}
 use Rattle.request_guard.specs.Guard.{fresh, acceptedWith, remembered, spent, locked}
-use Rattle.sessions.specs.Sessions.{idle, sessionAt, stageNumber}
+use Rattle.sessions.specs.Sessions.{isStage, becomes, idle, sessionAt, stageNumber}
 use Rattle.sessions.specs.declared.Session.{Session}
 use Rattle.sessions.specs.declared.Stage.{Stage}
 use Rattle.sessions.specs.declared.Stage.the-variants.{Idle, Asked, Pairing, Confirming, Proved, Paired}
@@ -167,7 +167,7 @@ sound d (PairingMode on t) v = sound-clock v t [] _ (λ w. record { next = beaco
 sound d (AddressRotated ble salt t) v = sound-clock v t [] _ (λ w. record { next = beacon-valid w _ })
 sound d (PowerOn stored start) v =
     sound-form (reading stored .form)
-    (λ e. record { next = started-valid (reading stored) start (reads-valid stored e) }) (stays v)
+    (λ e. record { next = started-valid (reading stored .keys) start (reads-valid stored e) }) (stays v)
 sound d (FactoryReset t) v =
     sound-clock v t [] _
     (λ w. record { next = keys-valid (guard-valid (dropAll-valid w) fresh fresh-valid) _ no-keys-valid })
@@ -218,8 +218,8 @@ form-taken Malformed d x e p = let z : _≡_ {A = ℕ} 14 0 = ap answerNumber e 
 pub starts-valid : StartsValid
 unfolding powerOn
 starts-valid d stored start e =
-    form-taken (reading stored .form) d (started (reading stored) start) e
-    (λ f. started-valid (reading stored) start (reads-valid stored f))
+    form-taken (reading stored .form) d (started (reading stored .keys) start) e
+    (λ f. started-valid (reading stored .keys) start (reads-valid stored f))
 
 -- ---- the stored list
 

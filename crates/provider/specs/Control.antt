@@ -6,11 +6,13 @@ use Prim.Native.Nat.{ℕ}
 use lib.Dec.{ltb}
 use lib.ListN.{replicate}
 use Rattle.laws.specs.Choice.{if_then_else_}
-use Rattle.account_keys.specs.Keys.{kept}
+use Rattle.account_keys.specs.Keys.{held, kept}
 use Rattle.account_keys.specs.StoredList.{reading}
+use Rattle.account_keys.specs.declared.AccountKeys.{AccountKeys}
 use Rattle.account_keys.specs.declared.ListForm.{ListForm}
 use Rattle.account_keys.specs.declared.ListForm.the-variants.{WellFormed, Malformed}
-use Rattle.account_keys.specs.declared.Reading.{Reading}
+use Rattle.advertising.specs.Payload.{payload}
+use Rattle.advertising.specs.declared.Prompt.{Prompt}
 use Rattle.basics.specs.declared.Address.{Address}
 use Rattle.provider.specs.Device.{Effect, answers, takes, inTime, dropAll, dropAt, withGuard, withKeys, withBeacon}
 use Rattle.provider.specs.declared.Answer.the-variants.{UnknownLink, ListMalformed}
@@ -49,11 +51,11 @@ unfoldable pub factoryReset : Device → ℕ → Effect
 factoryReset d t = inTime d t [] (λ e. takes (withKeys (withGuard (dropAll e) fresh) (kept [])))
 
 -- "Starts from a stored list, addresses, model ID and salt. All links idle, count 0, no spent salts, pairing mode off, clock 0."
-abbrev pub started : Reading → Start → Device
-started r s =
+abbrev pub started : AccountKeys → Start → Device
+started ks s =
     record {
       clock = record { 0 = 0 };
-      keys = r .keys;
+      keys = ks;
       sessions = allIdle;
       guard = fresh;
       identity = s .identity;
@@ -68,7 +70,7 @@ byForm Malformed x y = y
 -- "Power-on knows only 0 and 14."
 unfoldable pub powerOn : Device → List ℕ → Start → Effect
 powerOn d stored s =
-    byForm (reading stored .form) (takes (started (reading stored) s)) (answers d ListMalformed [])
+    byForm (reading stored .form) (takes (started (reading stored .keys) s)) (answers d ListMalformed [])
 
 -- the value before any device
 abbrev pub noAddress : Address
@@ -84,3 +86,8 @@ off =
       identity = record { public = noAddress; model = replicate 3 0 };
       beacon = record { ble = noAddress; salt = replicate 2 0; pairing = false };
     }
+
+-- "Asking for a payload changes no state and needs no clock."
+abbrev pub advertised : Device → Prompt → List ℕ
+advertised d prompt =
+    payload (d .beacon .pairing) (d .identity .model) (held (d .keys)) (d .beacon .salt) prompt

@@ -93,12 +93,16 @@ pub record Effect : Type 0 where
   pub gives : Outcome
   pub leaves : List ℕ
 
+-- an answer that hands out nothing
+abbrev pub given : Device → Answer → Outcome
+given d a = record { next = d; reply = plain a }
+
 abbrev pub replies : Device → Reply → List ℕ → Effect
 replies d r out = record { gives = record { next = d; reply = r }; leaves = out }
 
--- an answer that hands out nothing and leaves the lent output as it was
+-- that, and the lent output stays as it was
 abbrev pub answers : Device → Answer → List ℕ → Effect
-answers d a out = replies d (plain a) out
+answers d a out = record { gives = given d a; leaves = out }
 
 -- an event that lends no output
 abbrev pub takes : Device → Effect

@@ -18,7 +18,7 @@ use Rattle.provider.specs.declared.Answer.the-variants.{Taken, UnknownLi
 use Rattle.provider.specs.declared.Confirm.the-variants.{Yes, No}
 use Rattle.provider.specs.declared.Device.{Device}
 use Rattle.provider.specs.declared.Reply.{Reply}
-use Rattle.sessions.specs.Sessions.{idle, sessionAt, stageNumber}
+use Rattle.sessions.specs.Sessions.{idle, sessionAt, isStage, becomes}
 use Rattle.sessions.specs.declared.Session.{Session}
 use Rattle.sessions.specs.declared.Stage.{Stage}
 use Rattle.sessions.specs.declared.Stage.the-variants.{Idle, Asked, Pairing, Confirming, Proved, Paired}
@@ -48,19 +48,12 @@ abbrev pub acted : Device → ℕ → Act → Effect
 acted d l a =
     replies (withLink (withKeys d (withStored (d .keys) (a .stored))) l (a .session)) (a .reply) (a .output)
 
-abbrev pub isStage : Stage → Stage → Bool
-isStage x y = eqb (stageNumber x) (stageNumber y)
-
 -- answers 9, "on an idle link", and 10, "link's stage is not the one this event needs"
 unfoldable pub inStage : Stage → (Session → Act) → Device → ℕ → List ℕ → Effect
 inStage needed act d l out =
     if isStage (sessionAt (d .sessions) l .stage) Idle then answers d LinkIdle out else
     if not (isStage (sessionAt (d .sessions) l .stage) needed) then answers (dropAt d l) WrongStage out else
     acted d l (act (sessionAt (d .sessions) l))
-
--- the session in its next stage, from moment t on
-abbrev pub becomes : Stage → ℕ → Session → Session
-becomes stage t s = record { stage = stage; key = s .key; since = record { 0 = t }; passkey = 0 }
 
 -- ---- the events
 

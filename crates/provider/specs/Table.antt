@@ -15,12 +15,12 @@ use Rattle.provider.specs.Device.{clockStep, dropAll, dropAt, withGuard}
 use Rattle.provider.specs.Event.{Event, Overflow, LinkUp, LinkDown, PairingMode, AddressRotated, PowerOn, FactoryReset, KeyBasedWrite, PairingStarted, ConfirmationNeeded, PasskeyWrite, PairingEnded, AccountKeyWrite, lent, step, next}
 use Rattle.provider.specs.KeyBased.{tried}
 use Rattle.provider.specs.Kinds.{linkOf, clockOf}
-use Rattle.provider.specs.Pairing.{isStage, refusedCapability, badBlock}
+use Rattle.provider.specs.Pairing.{refusedCapability, badBlock}
 use Rattle.provider.specs.declared.Answer.{Answer}
 use Rattle.provider.specs.declared.Answer.the-variants.{Taken, UnknownLink, WrongLength, PasskeyTooLarge, ClockWentBack, LockedOut, NotInPairingMode, NoKeyFits, SaltSpent, LinkIdle, WrongStage, CapabilityRefused, BadBlock, OutputTooShort, ListMalformed}
 use Rattle.provider.specs.declared.Device.{Device}
 use Rattle.request_guard.specs.Guard.{remembered, spent, locked, failedAt}
-use Rattle.sessions.specs.Sessions.{sessionAt}
+use Rattle.sessions.specs.Sessions.{isStage, sessionAt}
 use Rattle.sessions.specs.declared.Session.{Session}
 use Rattle.sessions.specs.declared.Stage.{Stage}
 use Rattle.sessions.specs.declared.Stage.the-variants.{Idle, Asked, Pairing, Confirming, Proved, Paired}

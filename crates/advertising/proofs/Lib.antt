@@ -1,0 +1,4 @@
+pub mod Laws
+pub mod Promises
+pub mod Samples
+pub mod Texts

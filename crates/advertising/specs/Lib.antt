@@ -1,0 +1,4 @@
+pub mod Filter
+pub mod Payload
+pub mod Promises
+pub mod Samples
