@@ -1,4 +1,4 @@
--- Demand 1: every event gets its answer from the table, and a refusal changes what its row names.
+-- Every event gets its answer from document 01's table, and a refusal writes nothing and changes only what its row names.
 -- Assumes nothing.
 use mathlib.Core.Bool.{Bool, true, false, not}
 use mathlib.Core.List.{List, [], _∷_}
@@ -30,10 +30,12 @@ use Rattle.provider.proofs.Rows.{Told, told-taken, told-here, told-late
 
 -- ---- links and power-on
 
+-- answers 1 and 4
 told-link : (d : Device) (l t : ℕ) → Told d l t [] (rows d (LinkUp l t)) (linkChanged d l t)
 unfolding rows linkChanged
 told-link d l t = told-row UnknownLink (ltb 7 l) (told-clock _ (told-taken refl))
 
+-- answer 14
 told-form : (d : Device) (f : ListForm) (x : Device) → Told d 0 0 [] (row ListMalformed (malformed f) ∷ [])
     (byForm f (takes x) (answers d ListMalformed []))
 told-form d WellFormed x = told-later ListMalformed (told-taken refl)
@@ -52,7 +54,7 @@ told-settled d l t request salt out (found n key) =
     (told-reply (afterTrying n SaltSpent) (spent (remembered (clockStep t d .guard .spent))
     (requestSalt (opened key request))) (told-taken refl))
 
--- answers 5 to 8
+-- answers 1, 2, 13, 4, then 5 to 8
 told-request : (d : Device) (l t : ℕ) (request : List ℕ) (element : Element) (salt out : List ℕ)
     → Told d l t out
     (rows d (KeyBasedWrite l t request element salt out)) (keyBasedWrite d l t request element salt out)
@@ -66,6 +68,7 @@ told-request d l t request element salt out =
 
 -- ---- pairing
 
+-- answers 1, 4, then 9 to 11
 told-started : (d : Device) (l t capability : ℕ) → Told d l t [] (rows d (PairingStarted l t capability))
     (pairingStarted d l t capability)
 unfolding rows pairingStarted
@@ -73,6 +76,7 @@ told-started d l t capability =
     told-row UnknownLink (ltb 7 l) (told-clock _ (told-stage Asked (begun t capability)
     (told-drops CapabilityRefused (refusedCapability capability) _ refl (told-taken refl))))
 
+-- answers 1, 3, 4, then 9 and 10
 told-confirmation : (d : Device) (l t passkey : ℕ) → Told d l t [] (rows d (ConfirmationNeeded l t passkey))
     (confirmationNeeded d l t passkey)
 unfolding rows confirmationNeeded
@@ -86,6 +90,7 @@ either-taken : (b : Bool) (x y : Act) → x .reply .answer ≡ Taken → y .repl
 either-taken true x y p q = p
 either-taken false x y p q = q
 
+-- answers 1, 13, 4, then 9, 10 and 12
 told-passkey : (d : Device) (l t : ℕ) (block salt out : List ℕ) → Told d l t out
     (rows d (PasskeyWrite l t block salt out)) (passkeyWrite d l t block salt out)
 unfolding rows passkeyWrite proves
@@ -96,7 +101,7 @@ told-passkey d l t block salt out =
     (told-taken (either-taken (eqb (passkeyIn (invCipher (sessionAfter d l t .key) block))
     (sessionAfter d l t .passkey)) _ _ refl refl))))))
 
--- success and failure
+-- answers 1, 4, then 9, and 10 after a success
 told-ended : (d : Device) (l t : ℕ) (success : Bool) → Told d l t [] (rows d (PairingEnded l t success))
     (pairingEnded d l t success)
 unfolding rows pairingEnded
@@ -107,6 +112,7 @@ told-ended d l t false =
     told-row UnknownLink (ltb 7 l) (told-clock _ (told-row LinkIdle (isStage (sessionAfter d l t .stage) Idle)
     (told-taken refl)))
 
+-- answers 1, 4, then 9, 10 and 12
 told-account : (d : Device) (l t : ℕ) (block : List ℕ) → Told d l t [] (rows d (AccountKeyWrite l t block))
     (accountKeyWrite d l t block)
 unfolding rows accountKeyWrite keeps
@@ -116,6 +122,7 @@ told-account d l t block =
 
 -- ---- every event
 
+-- the rows of the table tell every event's effect
 told : (d : Device) (e : Event) → Told d (linkOf e) (clockOf e) (lent e) (rows d e) (step d e)
 unfolding rows linkChanged pairingMode addressRotated factoryReset powerOn
 told d Overflow = told-taken refl

@@ -1,24 +1,25 @@
 -- What every act on a session has: its answer is not 9, and it stores only keys that the list may hold.
 -- Assumes nothing.
-use mathlib.Core.Bool.{Bool, true, false, not}
+use mathlib.Core.Bool.{Bool, false, not}
 use mathlib.Core.List.{List, []}
-use mathlib.Core.Path.{_≡_, refl, subst}
+use mathlib.Core.Path.{_≡_}
 use Prim.Native.Nat.{ℕ}
 use lib.Dec.{T, eqb}
 use lib.ListN.{length, getD}
 use borrow.Author.Tests.{eqb-true, not-false}
-use Rattle.laws.specs.Choice.{if_then_else_, _or_}
+use Rattle.laws.proofs.Choice.{if-holds, or-false}
+use Rattle.laws.specs.Choice.{if_then_else_}
 use Rattle.laws.specs.Lists.{All}
 use Rattle.account_keys.specs.Keys.{Sized}
 use Rattle.account_keys.specs.declared.AccountKey.{AccountKey}
-use Rattle.aes128.specs.Cipher.{invCipher, invCipherBy}
-use Rattle.aes128.specs.Rounds.{addRoundKey}
+use Rattle.aes128.specs.Cipher.{invCipher}
 use Rattle.provider.specs.Answers.{answerNumber, plain, confirming}
 use Rattle.provider.specs.Pairing.{Act, begun, shows, passkeyIn, proves, keeps, refusedCapability, badBlock}
 use Rattle.provider.specs.declared.Answer.the-variants.{Taken, LinkIdle, CapabilityRefused, BadBlock}
 use Rattle.provider.specs.declared.Confirm.the-variants.{Yes, No}
 use Rattle.provider.specs.declared.Reply.{Reply}
 use Rattle.sessions.specs.declared.Session.{Session}
+use Rattle.aes128.proofs.Sizes.{invCipher-long}
 use Rattle.provider.proofs.Answers.{unlike}
 
 -- sixteen bytes that begin with 0x04
@@ -37,8 +38,7 @@ silent r t = record { answered = unlike (r .answer) LinkIdle t; storable = tt }
 
 -- a test, and then one of two acts
 sound-if : (b : Bool) {x y : Act} → Sound x → (b ≡ false → Sound y) → Sound (if b then x else y)
-sound-if true p q = p
-sound-if false p q = q refl
+sound-if = if-holds Sound
 
 -- ---- the acts
 
@@ -56,16 +56,6 @@ proves-sound t block salt out s =
     (λ e. sound-if (eqb (passkeyIn (invCipher (s .key) block)) (s .passkey)) (silent (confirming Yes) tt)
     (λ u. silent (confirming No) tt))
 
--- a decrypted block is sixteen bytes
-deciphered-long : (key block : List ℕ) → length (invCipher key block) ≡ 16
-unfolding invCipher invCipherBy addRoundKey
-deciphered-long key block = refl
-
--- of two tests that both fail, the second
-or-false : (a b : Bool) → (a or b) ≡ false → b ≡ false
-or-false true b e = absurd (subst T e tt)
-or-false false b e = e
-
 -- a block that is not bad begins as wanted
 begins : (first : ℕ) (key block : List ℕ) → badBlock first key block ≡ false → getD (invCipher key block) 0 0
     ≡ first
@@ -78,5 +68,5 @@ unfolding keeps
 keeps-sound block s =
     sound-if (badBlock 0x04 (s .key) block) (silent (plain BadBlock) tt) (λ e. record {
       answered = unlike Taken LinkIdle tt;
-      storable = ((deciphered-long (s .key) block, begins 0x04 (s .key) block e), tt);
+      storable = ((invCipher-long (s .key) block, begins 0x04 (s .key) block e), tt);
     })
