@@ -12,8 +12,8 @@ use borrow.Author.Tests.{le-leb, lt-leb}
 use Rattle.laws.proofs.Lists.{drop-held, drop-taken, paste-more}
 use Rattle.laws.proofs.Padded.{take-padded, set-padded}
 use Rattle.laws.specs.Choice.{_or_}
-use Rattle.laws.specs.Lists.{padded}
-use Rattle.account_keys.specs.Keys.{Kept, limit, zeroKey, held, kept, member, stored}
+use Rattle.laws.specs.Lists.{padded, All}
+use Rattle.account_keys.specs.Keys.{Valid, Sized, owned, Kept, limit, zeroKey, held, kept, member, stored}
 use Rattle.account_keys.specs.declared.AccountKey.{AccountKey}
 use Rattle.account_keys.specs.declared.AccountKeys.{AccountKeys}
 use Rattle.basics.specs.Bytes.{same}
@@ -119,3 +119,9 @@ module _ (ks : AccountKeys) (k : AccountKey) (v : Kept ks) where
 
 pub all-held : (ks : AccountKeys) → take (ks .count) (held ks) ≡ held ks
 all-held ks = take-take (ks .count) (ks .count) (ks .keys) (le-refl (ks .count))
+
+-- a list of owned keys of the right size is held by a valid value
+pub kept-valid : (l : List AccountKey) → length l ≤ limit → All Sized l → owned l ≡ true → Valid (kept l)
+kept-valid l h p o =
+    let e : held (kept l) ≡ l = held-kept l in
+    record { canonical = kept-kept l h; sized = rw e p; known = rw e o }

@@ -1,2 +1,4 @@
 pub mod Laws
+pub mod ReadBack
 pub mod StoredList
+pub mod Storing

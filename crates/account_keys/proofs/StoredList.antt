@@ -39,7 +39,7 @@ bytes-snoc (x ∷ xs) k = rw (bytes-snoc xs k) (sym (append-assoc (x .bytes) (ke
 pub bytes-long : (l : List AccountKey) → All Sized l → length (keyBytes l) ≡ 16 * length l
 unfolding keyBytes
 bytes-long [] p = refl
-bytes-long (x ∷ xs) p = rw (length-append (x .bytes) (keyBytes xs), p .0 .0, bytes-long xs (p .1)) (omega arith)
+bytes-long (x ∷ xs) p = rw (length-append (x .bytes) (keyBytes xs), p .0, bytes-long xs (p .1)) (omega arith)
 
 -- a turn of the loop that writes
 pub bytes-more : (l o : List ℕ) (ks : List AccountKey) (i n : ℕ) → All Sized (take n ks) → i < n → n ≤ length ks
@@ -60,7 +60,7 @@ bytes-more l o ks i n p h j e =
     let at : 16 * (i + 1) ≡ 16 * i + 16 = omega arith in
     rw (e, next, bytes-snoc (take i (take n ks)) (getD ks i nowhere), at, ← drop-drop 16 (16 * i) o)
     (paste-at (keyBytes (take i (take n ks))) (drop (16 * i) o) (getD ks i nowhere .bytes) (16 * i) 16 front
-    (sized .0))
+    sized)
 
 -- ---- reading
 
@@ -93,7 +93,7 @@ regroup true false true false b n = refl
 regroup true false false o b n = refl
 
 -- the last key is checked against those before it
-owned-snoc : (l : List AccountKey) (k : AccountKey)
+pub owned-snoc : (l : List AccountKey) (k : AccountKey)
     → owned (l ++ (k ∷ [])) ≡ (owned l and (eqb (getD (k .bytes) 0 0) 0x04 and not (member l k)))
 unfolding owned
 owned-snoc [] k = refl

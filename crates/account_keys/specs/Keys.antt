@@ -1,16 +1,16 @@
 -- Document 01, "The device and its events": the owners' account keys.
 -- Assumes nothing.
-use mathlib.Core.Path.{_≡_}
 use mathlib.Core.Bool.{Bool, true, false, not}
 use mathlib.Core.List.{List, [], _∷_, _++_}
-use Prim.Native.Nat.{ℕ, _≤_, _<_}
+use mathlib.Core.Path.{_≡_}
+use Prim.Native.Nat.{ℕ, _≤_}
 use lib.Dec.{leb, eqb}
 use lib.ListN.{length, take, drop, getD, replicate}
 use Rattle.laws.specs.Choice.{if_then_else_, _and_, _or_}
 use Rattle.laws.specs.Lists.{padded, All}
-use Rattle.basics.specs.Bytes.{same}
 use Rattle.account_keys.specs.declared.AccountKey.{AccountKey}
 use Rattle.account_keys.specs.declared.AccountKeys.{AccountKeys}
+use Rattle.basics.specs.Bytes.{same}
 
 -- "Account key list of at most 5 keys"
 abbrev pub limit : ℕ
@@ -46,7 +46,7 @@ owned (k ∷ ks) = eqb (getD (k .bytes) 0 0) 0x04 and not (member ks k) and owne
 
 -- sixteen bytes
 abbrev pub Sized : AccountKey → Type 0
-Sized k = (length (k .bytes) ≡ 16) × All (λ b. b < 256) (k .bytes)
+Sized k = length (k .bytes) ≡ 16
 
 -- the value holds a list of at most `limit` keys, and nothing in the places that are not in use
 pub record Kept (ks : AccountKeys) : Type 0 where

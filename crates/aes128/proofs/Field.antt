@@ -26,14 +26,16 @@ pub xTimes-add : (a b : ℕ) → xTimes (a ⊕ b) ≡ xTimes a ⊕ xTimes b
 unfolding xTimes
 xTimes-add a b = rw (shifted a b, reduced a b) (xor-exchange (a * 2 % 256) (b * 2 % 256) (bit a 7 * 27) (bit b 7 * 27))
 
+plusIf-add : (d a b p q : ℕ) → plusIf d (a ⊕ b) (p ⊕ q) ≡ plusIf d a p ⊕ plusIf d b q
+plusIf-add zero a b p q = refl
+plusIf-add (suc d) a b p q = xor-exchange p q a b
+
 product-add : (n c a b : ℕ) → product n c (a ⊕ b) ≡ product n c a ⊕ product n c b
 unfolding product
 product-add zero c a b = refl
-product-add (suc n) c a b = rw (xTimes-add, product-add n (c / 2) (xTimes a) (xTimes b)) (go (c % 2))
-  where
-    go : (d : ℕ) → plusIf d (a ⊕ b) (product n (c / 2) (xTimes a) ⊕ product n (c / 2) (xTimes b)) ≡ plusIf d a (product n (c / 2) (xTimes a)) ⊕ plusIf d b (product n (c / 2) (xTimes b))
-    go zero = refl
-    go (suc d) = xor-exchange (product n (c / 2) (xTimes a)) (product n (c / 2) (xTimes b)) a b
+product-add (suc n) c a b =
+    rw (xTimes-add, product-add n (c / 2) (xTimes a) (xTimes b))
+    (plusIf-add (c % 2) a b (product n (c / 2) (xTimes a)) (product n (c / 2) (xTimes b)))
 
 pub mul-additive : (c : ℕ) → Additive (λ b. c • b)
 unfolding _•_
@@ -43,14 +45,15 @@ pub xTimes-lt : (b : ℕ) → xTimes b < 256
 unfolding xTimes
 xTimes-lt b = xor-lt 8 (b * 2 % 256) (bit b 7 * 27) (mod-lt (b * 2) (lit< tt)) (omega (arith, bit-lt b 7))
 
+plusIf-lt : (d b p : ℕ) → b < 256 → p < 256 → plusIf d b p < 256
+plusIf-lt zero b p h k = k
+plusIf-lt (suc d) b p h k = xor-lt 8 p b k h
+
 product-lt : (n c b : ℕ) → b < 256 → product n c b < 256
 unfolding product
 product-lt zero c b h = lit< tt
-product-lt (suc n) c b h = go (c % 2) (product-lt n (c / 2) (xTimes b) (xTimes-lt b))
-  where
-    go : (d : ℕ) → product n (c / 2) (xTimes b) < 256 → plusIf d b (product n (c / 2) (xTimes b)) < 256
-    go zero k = k
-    go (suc d) k = xor-lt 8 (product n (c / 2) (xTimes b)) b k h
+product-lt (suc n) c b h =
+    plusIf-lt (c % 2) b (product n (c / 2) (xTimes b)) h (product-lt n (c / 2) (xTimes b) (xTimes-lt b))
 
 pub mul-lt : (c b : ℕ) → b < 256 → c • b < 256
 unfolding _•_

@@ -12,7 +12,8 @@ use Rattle.aes128.specs.Cipher.{keyExpansion, rounds, cipherBy, cipher, 
 use Rattle.aes128.specs.Field.{_⊕_, _•_}
 use Rattle.aes128.specs.Inverse.{Block, Undoes}
 use Rattle.aes128.specs.KeyExpansion.{roundKey}
-use Rattle.aes128.specs.Rounds.{times, mixMatrix, mixBy, subBytes, shiftRows, mixColumns, addRoundKey, invSubBytes, invShiftRows, invMixColumns}
+use Rattle.aes128.specs.Rounds.{times, mixMatrix, mixBy, subBytes, shiftRows, mixColumns, addRoundKey}
+use Rattle.aes128.specs.Rounds.{invSubBytes, invShiftRows, invMixColumns}
 use Rattle.aes128.specs.SBox.{sBox, invSBox}
 use Rattle.aes128.specs.State.{at}
 use Rattle.aes128.proofs.Field.{mul-lt}
@@ -26,30 +27,36 @@ use Rattle.aes128.proofs.State.{state-ext, at-state, state-at, state-lt
 addRoundKey-block : {s : List ℕ} (k : List ℕ) → Block s → Bytes k → Block (addRoundKey s k)
 unfolding addRoundKey
 addRoundKey-block {s} k p q =
-    record { long = refl; bytes = state-lt (λ r c. at s r c ⊕ at k r c) (λ r c. xor-lt 8 (at s r c) (at k r c) (p .bytes (r + 4 * c)) (q (r + 4 * c))) }
+    record {
+      long = refl;
+      bytes = state-lt (λ r c. at s r c ⊕ at k r c) (λ r c. xor-lt 8 (at s r c) (at k r c) (p .bytes (r + 4 * c)) (q (r + 4 * c)));
+    }
 
 subBytes-block : {s : List ℕ} → Block s → Block (subBytes s)
 unfolding subBytes
-subBytes-block {s} p = record { long = refl; bytes = state-lt (λ r c. sBox (at s r c)) (λ r c. sBox-lt (at s r c) (p .bytes (r + 4 * c))) }
+subBytes-block {s} p =
+    record { long = refl; bytes = state-lt (λ r c. sBox (at s r c)) (λ r c. sBox-lt (at s r c) (p .bytes (r + 4 * c))) }
 
 shiftRows-block : {s : List ℕ} → Block s → Block (shiftRows s)
-shiftRows-block {s} p = record { long = refl; bytes = state-lt (λ r c. at s r ((c + r) % 4)) (λ r c. p .bytes (r + 4 * ((c + r) % 4))) }
+shiftRows-block {s} p =
+    record { long = refl; bytes = state-lt (λ r c. at s r ((c + r) % 4)) (λ r c. p .bytes (r + 4 * ((c + r) % 4))) }
 
-times-lt : (m : List ℕ) (a b c d : ℕ) → a < 256 → b < 256 → c < 256 → d < 256 → times m a b c d < 256
-times-lt m a b c d ha hb hc hd =
-    xor-lt 8 (getD m 0 0 • a ⊕ getD m 1 0 • b ⊕ getD m 2 0 • c) (getD m 3 0 • d)
-    (xor-lt 8 (getD m 0 0 • a ⊕ getD m 1 0 • b) (getD m 2 0 • c)
-    (xor-lt 8 (getD m 0 0 • a) (getD m 1 0 • b) (mul-lt (getD m 0 0) a ha) (mul-lt (getD m 1 0) b hb))
-    (mul-lt (getD m 2 0) c hc))
-    (mul-lt (getD m 3 0) d hd)
+times-lt : (m : List ℕ) (x : ℕ → ℕ) → ((j : ℕ) → x j < 256) → times m x < 256
+times-lt m x h =
+    xor-lt 8 (getD m 0 0 • x 0 ⊕ getD m 1 0 • x 1 ⊕ getD m 2 0 • x 2) (getD m 3 0 • x 3)
+    (xor-lt 8 (getD m 0 0 • x 0 ⊕ getD m 1 0 • x 1) (getD m 2 0 • x 2)
+    (xor-lt 8 (getD m 0 0 • x 0) (getD m 1 0 • x 1) (term 0) (term 1)) (term 2)) (term 3)
+  where
+    term : (j : ℕ) → getD m j 0 • x j < 256
+    term j = mul-lt (getD m j 0) (x j) (h j)
 
 mixColumns-block : {s : List ℕ} → Block s → Block (mixColumns s)
 unfolding mixColumns mixBy
 mixColumns-block {s} p =
     record {
       long = refl;
-      bytes = state-lt (λ r c. times (getD mixMatrix r []) (at s 0 c) (at s 1 c) (at s 2 c) (at s 3 c))
-          (λ r c. times-lt (getD mixMatrix r []) (at s 0 c) (at s 1 c) (at s 2 c) (at s 3 c) (p .bytes (0 + 4 * c)) (p .bytes (1 + 4 * c)) (p .bytes (2 + 4 * c)) (p .bytes (3 + 4 * c)));
+      bytes = state-lt (λ r c. times (getD mixMatrix r []) (λ j. at s j c))
+          (λ r c. times-lt (getD mixMatrix r []) (λ j. at s j c) (λ j. p .bytes (j + 4 * c)));
     }
 
 -- ---- each step is undone
@@ -90,9 +97,12 @@ module _ (w : List (List ℕ)) (block : List ℕ) (hw : (n : ℕ) → Bytes (get
   added-back : (n : ℕ) → addRoundKey (rounds w block (suc n)) (getD w (suc n) []) ≡ mixColumns (sent (rounds w block n))
   unfolding rounds
   added-back n =
-      addRoundKey-twice (mixColumns (sent (rounds w block n))) (getD w (suc n) []) (mixColumns-block (sent-block (rounds-block n)) .long)
+      addRoundKey-twice (mixColumns (sent (rounds w block n))) (getD w (suc n) [])
+      (mixColumns-block (sent-block (rounds-block n)) .long)
 
-  round-back : (n : ℕ) → invMixColumns (addRoundKey (invSubBytes (invShiftRows (sent (rounds w block (suc n))))) (getD w (suc n) [])) ≡ sent (rounds w block n)
+  round-back : (n : ℕ)
+      → invMixColumns (addRoundKey (invSubBytes (invShiftRows (sent (rounds w block (suc n))))) (getD w (suc n) []))
+      ≡ sent (rounds w block n)
   round-back n =
       ap (λ s. invMixColumns (addRoundKey s (getD w (suc n) []))) (sent-back (rounds w block (suc n)) (rounds-block (suc n)))
       ∙ ap invMixColumns (added-back n)
@@ -104,7 +114,8 @@ module _ (w : List (List ℕ)) (block : List ℕ) (hw : (n : ℕ) → Bytes (get
   rounds-back (suc n) = ap (invRounds w n) (round-back n) ∙ rounds-back n
 
 -- for every key schedule
-undone : (w : List (List ℕ)) (block : List ℕ) → ((n : ℕ) → Bytes (getD w n [])) → Block block → invCipherBy w (cipherBy w block) ≡ block
+undone : (w : List (List ℕ)) (block : List ℕ) → ((n : ℕ) → Bytes (getD w n [])) → Block block
+    → invCipherBy w (cipherBy w block) ≡ block
 unfolding invCipherBy cipherBy rounds
 undone w block hw hb =
     ap (λ t. addRoundKey (invSubBytes (invShiftRows (invRounds w 9 t))) (getD w 0 []))
@@ -123,4 +134,4 @@ undone w block hw hb =
 pub decrypt-undoes-encrypt : Undoes
 unfolding cipher invCipher
 decrypt-undoes-encrypt key block hk hb =
-    undone (keyExpansion key) block (tabulate-all Bytes 11 (roundKey key) [] (λ i. lit< tt) (λ n. roundKey-lt key (hk .bytes) n)) hb
+    undone (keyExpansion key) block (tabulate-all Bytes 11 (roundKey key) [] (λ i. lit< tt) (roundKey-lt key (hk .bytes))) hb

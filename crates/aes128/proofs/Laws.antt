@@ -8,7 +8,7 @@ use native.Mathlib.Numerals.{add-one}
 use native.Mathlib.Omega.{arith}
 use lib.Bits.{bitAnd, bitXor}
 use lib.Arith.{lt-one}
-use lib.Dec.{lit<, lit≤}
+use lib.Dec.{T, ltb, lit<, lit≤}
 use lib.ListN.{length, getD, replicate}
 use mir.Syntax.{w8}
 use mir.Val.{Fits}
@@ -19,7 +19,8 @@ use Rattle.laws.proofs.Xor.{xor-left, xor-turn}
 use Rattle.aes128.specs.Cipher.{keyExpansion, rounds, cipherBy, cipher, invRounds, invCipherBy, invCipher}
 use Rattle.aes128.specs.Field.{_⊕_, _•_, xTimes, product}
 use Rattle.aes128.specs.KeyExpansion.{subWord, xPower, word, roundKey}
-use Rattle.aes128.specs.Rounds.{times, mixBy, subBytes, shiftRows, mixColumns, addRoundKey, invSubBytes, invShiftRows, invMixColumns}
+use Rattle.aes128.specs.Rounds.{times, mixBy, subBytes, shiftRows, mixColumns, addRoundKey}
+use Rattle.aes128.specs.Rounds.{invSubBytes, invShiftRows, invMixColumns}
 use Rattle.aes128.specs.SBox.{sBox}
 use Rattle.aes128.specs.State.{at, state}
 use Rattle.aes128.specs.Steps.{substituted, doubled, sum, turnedSum, nextRoundKey}
@@ -52,7 +53,8 @@ substituted-by t f right s bytes =
     tabulate-ext 16 (λ i. getD t (getD s i 0) 0) (λ i. f (getD s i 0)) (λ i h. right (getD s i 0) (bytes i .fits))
 
 pub subWord-by : (w : List ℕ) → ((i : ℕ) → Fits w8 (getD w i 0)) → {a b c d : ℕ}
-    → a ≡ getD sBoxTable (getD w 0 0) 0 → b ≡ getD sBoxTable (getD w 1 0) 0 → c ≡ getD sBoxTable (getD w 2 0) 0 → d ≡ getD sBoxTable (getD w 3 0) 0
+    → a ≡ getD sBoxTable (getD w 0 0) 0 → b ≡ getD sBoxTable (getD w 1 0) 0
+    → c ≡ getD sBoxTable (getD w 2 0) 0 → d ≡ getD sBoxTable (getD w 3 0) 0
     → a ∷ b ∷ c ∷ d ∷ [] ≡ subWord w
 subWord-by w bytes p q r s = rw (p ∙ entry 0, q ∙ entry 1, r ∙ entry 2, s ∙ entry 3)
   where
@@ -72,31 +74,33 @@ scaled-at a s r c hr hc = getD-tabulate 16 (λ i. a • getD s i 0) (r + 4 * c) 
 abbrev turns : ℕ → ℕ → ℕ → ℕ → List (List ℕ)
 turns a b c d = (a ∷ b ∷ c ∷ d ∷ []) ∷ (d ∷ a ∷ b ∷ c ∷ []) ∷ (c ∷ d ∷ a ∷ b ∷ []) ∷ (b ∷ c ∷ d ∷ a ∷ []) ∷ []
 
-turned-mix : (w x y z : ℕ) (s : List ℕ) → turnedSum (scaled w s) (scaled x s) (scaled y s) (scaled z s) ≡ mixBy (turns w x y z) s
-unfolding turnedSum mixBy
-turned-mix w x y z s =
-    state-ext entry (λ r c. mixed r c)
-    (λ r c hr hc.
-    by-row (λ r. entry r c ≡ mixed r c) (given 0 1 2 3 hc (lit< tt) (lit< tt) (lit< tt) (lit< tt))
-    (given 1 2 3 0 hc (lit< tt) (lit< tt) (lit< tt) (lit< tt) ∙ turn (w • at s 1 c) (x • at s 2 c) (y • at s 3 c) (z • at s 0 c))
-    (given 2 3 0 1 hc (lit< tt) (lit< tt) (lit< tt) (lit< tt) ∙ turn (w • at s 2 c) (x • at s 3 c) (y • at s 0 c) (z • at s 1 c) ∙ turn (z • at s 1 c) (w • at s 2 c) (x • at s 3 c) (y • at s 0 c))
-    (given 3 0 1 2 hc (lit< tt) (lit< tt) (lit< tt) (lit< tt) ∙ sym (turn (x • at s 0 c) (y • at s 1 c) (z • at s 2 c) (w • at s 3 c))) r hr)
-  where
-    entry : ℕ → ℕ → ℕ
-    entry r c = at (scaled w s) r c ⊕ (at (scaled x s) ((r + 1) % 4) c ⊕ (at (scaled y s) ((r + 2) % 4) c ⊕ at (scaled z s) ((r + 3) % 4) c))
+module _ (w x y z : ℕ) (s : List ℕ) where
+  given : (i j k l c : ℕ) → c < 4 → T (ltb i 4) → T (ltb j 4) → T (ltb k 4) → T (ltb l 4)
+      → at (scaled w s) i c ⊕ (at (scaled x s) j c ⊕ (at (scaled y s) k c ⊕ at (scaled z s) l c))
+      ≡ w • at s i c ⊕ x • at s j c ⊕ y • at s k c ⊕ z • at s l c
+  given i j k l c hc hi hj hk hl =
+      rw (scaled-at w s i c (lit< hi) hc, scaled-at x s j c (lit< hj) hc, scaled-at y s k c (lit< hk) hc, scaled-at z s l c (lit< hl) hc)
+      (xor-left (w • at s i c) (x • at s j c) (y • at s k c) (z • at s l c))
 
-    mixed : ℕ → ℕ → ℕ
-    mixed r c = times (getD (turns w x y z) r []) (at s 0 c) (at s 1 c) (at s 2 c) (at s 3 c)
+  turned-mix : turnedSum (scaled w s) (scaled x s) (scaled y s) (scaled z s) ≡ mixBy (turns w x y z) s
+  unfolding turnedSum mixBy
+  turned-mix =
+      state-ext sums mixed
+      (λ r c hr hc.
+      by-row (λ r. sums r c ≡ mixed r c) (given 0 1 2 3 c hc tt tt tt tt)
+      (given 1 2 3 0 c hc tt tt tt tt ∙ xor-turn (w • at s 1 c) (x • at s 2 c) (y • at s 3 c) (z • at s 0 c))
+      (given 2 3 0 1 c hc tt tt tt tt
+      ∙ xor-turn (w • at s 2 c) (x • at s 3 c) (y • at s 0 c) (z • at s 1 c)
+      ∙ xor-turn (z • at s 1 c) (w • at s 2 c) (x • at s 3 c) (y • at s 0 c))
+      (given 3 0 1 2 c hc tt tt tt tt ∙ sym (xor-turn (x • at s 0 c) (y • at s 1 c) (z • at s 2 c) (w • at s 3 c))) r hr)
+    where
+      sums : ℕ → ℕ → ℕ
+      sums r c =
+          at (scaled w s) r c
+          ⊕ (at (scaled x s) ((r + 1) % 4) c ⊕ (at (scaled y s) ((r + 2) % 4) c ⊕ at (scaled z s) ((r + 3) % 4) c))
 
-    turn : (a b c d : ℕ) → a ⊕ b ⊕ c ⊕ d ≡ d ⊕ a ⊕ b ⊕ c
-    turn = xor-turn
-
-    given : (i j k l : ℕ) {c : ℕ} → c < 4 → i < 4 → j < 4 → k < 4 → l < 4
-        → at (scaled w s) i c ⊕ (at (scaled x s) j c ⊕ (at (scaled y s) k c ⊕ at (scaled z s) l c))
-        ≡ w • at s i c ⊕ x • at s j c ⊕ y • at s k c ⊕ z • at s l c
-    given i j k l {c} hc hi hj hk hl =
-        rw (scaled-at w s i c hi hc, scaled-at x s j c hj hc, scaled-at y s k c hk hc, scaled-at z s l c hl hc)
-        (xor-left (w • at s i c) (x • at s j c) (y • at s k c) (z • at s l c))
+      mixed : ℕ → ℕ → ℕ
+      mixed r c = times (getD (turns w x y z) r []) (λ j. at s j c)
 
 pub mixColumns-made : (s : List ℕ) → turnedSum (doubled s) (sum (doubled s) s) s s ≡ mixColumns s
 unfolding mixColumns turnedSum scaled _•_ product doubled sum
@@ -118,7 +122,8 @@ pub filled-first : (key : List ℕ) → length key ≡ 16 → Filled [] 11 (roun
 filled-first key h =
     record { long = refl; within = lit≤ tt; done = λ k l. rw (lt-one l) (sym (roundKey-first key h)) }
 
-pub roundKey-more : (key : List ℕ) (i : ℕ) {k n : List ℕ} {x : ℕ} → n ≡ nextRoundKey k x → k ≡ roundKey key i → x ≡ xPower i → n ≡ roundKey key (i + 1)
+pub roundKey-more : (key : List ℕ) (i : ℕ) {k n : List ℕ} {x : ℕ}
+    → n ≡ nextRoundKey k x → k ≡ roundKey key i → x ≡ xPower i → n ≡ roundKey key (i + 1)
 roundKey-more key i e p q = rw (e, p, q, add-one) (sym (roundKey-next key i))
 
 pub xPower-more : (i : ℕ) {x y : ℕ} → y ≡ xTimes x → x ≡ xPower i → y ≡ xPower (i + 1)

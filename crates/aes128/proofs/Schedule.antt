@@ -50,7 +50,10 @@ xorWord-lt a b p q =
 subRot-lt : (a : List ℕ) → Bytes a → Bytes (subWord (rotWord a))
 subRot-lt a p =
     tabulate-all (λ x. x < 256) 4 (λ i. sBox (getD (rotWord a) i 0)) 0 (lit< tt)
-    (λ i. sBox-lt (getD (rotWord a) i 0) (tabulate-all (λ x. x < 256) 4 (λ i. getD a ((i + 1) % 4) 0) 0 (lit< tt) (λ i. p ((i + 1) % 4)) i))
+    (λ i. sBox-lt (getD (rotWord a) i 0) (rotated i))
+  where
+    rotated : Bytes (rotWord a)
+    rotated = tabulate-all (λ x. x < 256) 4 (λ i. getD a ((i + 1) % 4) 0) 0 (lit< tt) (λ i. p ((i + 1) % 4))
 
 xPower-lt : (n : ℕ) → xPower n < 256
 unfolding xPower

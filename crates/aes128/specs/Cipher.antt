@@ -5,7 +5,8 @@ use Prim.Native.Nat.{ℕ, zero, suc}
 use lib.ListN.{getD}
 use Rattle.laws.specs.Tabulate.{tabulate}
 use Rattle.aes128.specs.KeyExpansion.{roundKey}
-use Rattle.aes128.specs.Rounds.{subBytes, shiftRows, mixColumns, addRoundKey, invSubBytes, invShiftRows, invMixColumns}
+use Rattle.aes128.specs.Rounds.{subBytes, shiftRows, mixColumns, addRoundKey}
+use Rattle.aes128.specs.Rounds.{invSubBytes, invShiftRows, invMixColumns}
 
 -- §5.2, KEYEXPANSION: the words w[0] to w[43]
 abbrev pub keyExpansion : List ℕ → List (List ℕ)

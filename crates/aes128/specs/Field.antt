@@ -1,4 +1,4 @@
--- FIPS 197 §4: a byte, a number below 256, is an element of GF(2^8): bit i is the coefficient of x^i.
+-- FIPS 197 §4: a byte is an element of GF(2^8), and its bit i the coefficient of x^i. The signs ⊕ and • are the standard's.
 -- Assumes nothing.
 use Prim.Native.Nat.{ℕ, zero, suc, _*_, _/_, _%_, _^_}
 use lib.Bits.{bitXor}
@@ -15,8 +15,9 @@ bit b i = b / 2 ^ i % 2
 
 -- §4.2, XTIMES: shifted left by one, and xor with {1b} if b7 = 1
 unfoldable pub xTimes : ℕ → ℕ
-xTimes b = b * 2 % 256 ⊕ bit b 7 * 27
+xTimes b = b * 2 % 256 ⊕ bit b 7 * 0x1b
 
+-- b added to the sum, if the bit is set
 abbrev pub plusIf : ℕ → ℕ → ℕ → ℕ
 plusIf zero b sum = sum
 plusIf (suc bit) b sum = sum ⊕ b

@@ -15,21 +15,21 @@ subBytes s = state (λ r c. sBox (at s r c))
 abbrev pub shiftRows : List ℕ → List ℕ
 shiftRows s = state (λ r c. at s r ((c + r) % 4))
 
--- the sum of the four products of a row's coefficients and a column's bytes
-abbrev pub times : List ℕ → ℕ → ℕ → ℕ → ℕ → ℕ
-times m a b c d = getD m 0 0 • a ⊕ getD m 1 0 • b ⊕ getD m 2 0 • c ⊕ getD m 3 0 • d
+-- the products of a row's coefficients and a column's bytes, added
+abbrev pub times : List ℕ → (ℕ → ℕ) → ℕ
+times m x = getD m 0 0 • x 0 ⊕ getD m 1 0 • x 1 ⊕ getD m 2 0 • x 2 ⊕ getD m 3 0 • x 3
 
 -- §4.3: each column of the state, multiplied by a matrix
 unfoldable pub mixBy : List (List ℕ) → List ℕ → List ℕ
-mixBy m s = state (λ r c. times (getD m r []) (at s 0 c) (at s 1 c) (at s 2 c) (at s 3 c))
+mixBy m s = state (λ r c. times (getD m r []) (λ j. at s j c))
 
 -- §5.1.3, MIXCOLUMNS
 abbrev pub mixMatrix : List (List ℕ)
 mixMatrix =
-    (2 ∷ 3 ∷ 1 ∷ 1 ∷ []) ∷
-    (1 ∷ 2 ∷ 3 ∷ 1 ∷ []) ∷
-    (1 ∷ 1 ∷ 2 ∷ 3 ∷ []) ∷
-    (3 ∷ 1 ∷ 1 ∷ 2 ∷ []) ∷ []
+    (0x02 ∷ 0x03 ∷ 0x01 ∷ 0x01 ∷ []) ∷
+    (0x01 ∷ 0x02 ∷ 0x03 ∷ 0x01 ∷ []) ∷
+    (0x01 ∷ 0x01 ∷ 0x02 ∷ 0x03 ∷ []) ∷
+    (0x03 ∷ 0x01 ∷ 0x01 ∷ 0x02 ∷ []) ∷ []
 
 unfoldable pub mixColumns : List ℕ → List ℕ
 mixColumns s = mixBy mixMatrix s
@@ -49,10 +49,10 @@ invSubBytes s = state (λ r c. invSBox (at s r c))
 -- §5.3.3, INVMIXCOLUMNS
 abbrev pub invMixMatrix : List (List ℕ)
 invMixMatrix =
-    (14 ∷ 11 ∷ 13 ∷ 9 ∷ []) ∷
-    (9 ∷ 14 ∷ 11 ∷ 13 ∷ []) ∷
-    (13 ∷ 9 ∷ 14 ∷ 11 ∷ []) ∷
-    (11 ∷ 13 ∷ 9 ∷ 14 ∷ []) ∷ []
+    (0x0e ∷ 0x0b ∷ 0x0d ∷ 0x09 ∷ []) ∷
+    (0x09 ∷ 0x0e ∷ 0x0b ∷ 0x0d ∷ []) ∷
+    (0x0d ∷ 0x09 ∷ 0x0e ∷ 0x0b ∷ []) ∷
+    (0x0b ∷ 0x0d ∷ 0x09 ∷ 0x0e ∷ []) ∷ []
 
 unfoldable pub invMixColumns : List ℕ → List ℕ
 invMixColumns s = mixBy invMixMatrix s

@@ -17,13 +17,14 @@ inverse b = squares 7 b
 -- §5.1.1: b'i = bi ⊕ b(i+4 mod 8) ⊕ b(i+5 mod 8) ⊕ b(i+6 mod 8) ⊕ b(i+7 mod 8) ⊕ ci, where c is {63}
 unfoldable pub affineBit : ℕ → ℕ → ℕ
 affineBit b i =
-    (bit b i + bit b ((i + 4) % 8) + bit b ((i + 5) % 8) + bit b ((i + 6) % 8) + bit b ((i + 7) % 8) + bit 99 i) % 2
+    (bit b i + bit b ((i + 4) % 8) + bit b ((i + 5) % 8) + bit b ((i + 6) % 8) + bit b ((i + 7) % 8) + bit 0x63 i) % 2
 
 -- the number whose bits from i on, n of them, are those of f
 unfoldable pub fromBits : (ℕ → ℕ) → ℕ → ℕ → ℕ
 fromBits f zero i = 0
 fromBits f (suc n) i = f i + 2 * fromBits f n (suc i)
 
+-- §5.1.1: the affine transformation
 unfoldable pub affine : ℕ → ℕ
 affine b = fromBits (affineBit b) 8 0
 

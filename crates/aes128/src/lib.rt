@@ -79,6 +79,7 @@ fn next_round_key(k: [u8; 16], rcon: u8) -> [u8; 16]
     join(a, b, c, d)
 }
 
+// The word in column c.
 fn column(s: [u8; 16], c: usize) -> [u8; 4]
     requires { ⌜ c < 4 ⌝ }
     ensures { λ r. ⌜ r ≡ columnOf s c ⌝ }
@@ -106,6 +107,7 @@ fn xor_word(a: [u8; 4], b: [u8; 4]) -> [u8; 4]
     [a[0] ^ b[0], a[1] ^ b[1], a[2] ^ b[2], a[3] ^ b[3]]
 }
 
+// The state of four columns.
 fn join(a: [u8; 4], b: [u8; 4], c: [u8; 4], d: [u8; 4]) -> [u8; 16]
     ensures { λ r. ⌜ r ≡ columns a b c d ⌝ }
 {
@@ -169,7 +171,7 @@ fn inv_shift_rows(s: [u8; 16]) -> [u8; 16]
     )
 }
 
-// The coefficients {02}, {03}, {01}, {01}, each times the whole state; a row of the matrix is the last row turned.
+// The matrix's first row is {02}, {03}, {01}, {01}, and each other row is the one above it, turned by one.
 fn mix_columns(s: [u8; 16]) -> [u8; 16]
     ensures { λ r. ⌜ r ≡ mixColumns s ⌝ }
 {
@@ -178,7 +180,7 @@ fn mix_columns(s: [u8; 16]) -> [u8; 16]
     turned_sum(two, three, s, s)
 }
 
-// The coefficients {0e}, {0b}, {0d}, {09}.
+// The matrix's first row is {0e}, {0b}, {0d}, {09}.
 fn inv_mix_columns(s: [u8; 16]) -> [u8; 16]
     ensures { λ r. ⌜ r ≡ invMixColumns s ⌝ }
 {
@@ -194,12 +196,14 @@ fn inv_mix_columns(s: [u8; 16]) -> [u8; 16]
     turned_sum(fourteen, eleven, thirteen, nine)
 }
 
+// w, and x, y and z with their columns turned by one, two and three: the sum that a matrix of turned rows gives.
 fn turned_sum(w: [u8; 16], x: [u8; 16], y: [u8; 16], z: [u8; 16]) -> [u8; 16]
     ensures { λ r. ⌜ r ≡ turnedSum w x y z ⌝ }
 {
     xor(w, turn(xor(x, turn(xor(y, turn(z))))))
 }
 
+// Each column turned by one: row r + 1 comes to row r.
 fn turn(s: [u8; 16]) -> [u8; 16]
     ensures { λ r. ⌜ r ≡ turned s ⌝ }
 {
@@ -211,6 +215,7 @@ fn turn(s: [u8; 16]) -> [u8; 16]
     )
 }
 
+// Each byte of s through the table t; both directions share it.
 fn substitute(t: &[u8; 256], s: [u8; 16]) -> [u8; 16]
     ensures { λ r. ⌜ r ≡ substituted (now (t .entry)) s ⌝ }
 {
@@ -249,6 +254,7 @@ fn double(b: u8) -> u8
     (b << 1) ^ (mask & 0x1b)
 }
 
+// Byte by byte, the sum of two blocks.
 fn xor(a: [u8; 16], b: [u8; 16]) -> [u8; 16]
     ensures { λ r. ⌜ r ≡ sum a b ⌝ }
 {

@@ -1,6 +1,6 @@
 // What every layer of the provider speaks of: link numbers and moments, addresses, blocks of sixteen bytes, lent outputs.
 ghost use mathlib.Core.Path.{_≡_};
-ghost use Prim.Native.Nat.{_+_, _≤_};
+ghost use Prim.Native.Nat.{_+_, _-_, _≤_};
 ghost use lib.ListN.{length};
 ghost use lib.Seq.{paste};
 ghost use Rattle.basics.specs.Bytes as spec;
@@ -90,4 +90,11 @@ pub fn put(out: &mut [u8], at: usize, block: [u8; 16])
         out[at + i] = block[i];
         i += 1;
     }
+}
+
+// How long ago `then` was, in milliseconds; 0 if it is still to come.
+pub fn ago(now: Moment, then: Moment) -> u64
+    ensures { λ r. ⌜ r ≡ now .0 - then .0 ⌝ }
+{
+    if then.0 <= now.0 { now.0 - then.0 } else { 0 }
 }

@@ -16,15 +16,26 @@ pub record Additive (f : ℕ → ℕ) : Type 0 where
 pub at-zero : {f : ℕ → ℕ} → Additive f → f 0 ≡ 0
 at-zero {f} p = p .adds 0 0 ∙ xor-self (f 0)
 
-pub agree : {f g : ℕ → ℕ} → Additive f → Additive g → (n : ℕ) → ((k : ℕ) → k < n → f (2 ^ k) ≡ g (2 ^ k)) → (x : ℕ) → x < 2 ^ n → f x ≡ g x
-agree {f} {g} p q zero e x h = rw (lt-one h) (at-zero p ∙ sym (at-zero q))
+pub agree : {f g : ℕ → ℕ} → Additive f → Additive g
+    → (n : ℕ) → ((k : ℕ) → k < n → f (2 ^ k) ≡ g (2 ^ k)) → (x : ℕ) → x < 2 ^ n → f x ≡ g x
+agree p q zero e x h = rw (lt-one h) (at-zero p ∙ sym (at-zero q))
 agree {f} {g} p q (suc n) e x h =
-    rw (sym whole) (p .adds (x / 2 ^ n * 2 ^ n) (x % 2 ^ n) ∙ rw (top, agree p q n (λ k l. e k (omega arith)) (x % 2 ^ n) (mod-lt x (pow-pos n))) (sym (q .adds (x / 2 ^ n * 2 ^ n) (x % 2 ^ n))))
+    rw (sym whole) (p .adds high low ∙ rw (
+      top,
+      agree p q n (λ k l. e k (omega arith)) low
+          (mod-lt x (pow-pos n)),
+    ) (sym (q .adds high low)))
   where
-    whole : bitXor (x / 2 ^ n * 2 ^ n) (x % 2 ^ n) ≡ x
-    whole = xor-shifted (x / 2 ^ n) n (x % 2 ^ n) (mod-lt x (pow-pos n)) ∙ split x n
+    high : ℕ
+    high = x / 2 ^ n * 2 ^ n
 
-    top : f (x / 2 ^ n * 2 ^ n) ≡ g (x / 2 ^ n * 2 ^ n)
+    low : ℕ
+    low = x % 2 ^ n
+
+    whole : bitXor high low ≡ x
+    whole = xor-shifted (x / 2 ^ n) n low (mod-lt x (pow-pos n)) ∙ split x n
+
+    top : f high ≡ g high
     top =
         by-bit (λ b. f (b * 2 ^ n) ≡ g (b * 2 ^ n)) (rw zero-mul (at-zero p ∙ sym (at-zero q)))
         (rw one-mul (e n (omega arith))) (x / 2 ^ n) (shr-lt 1 n (rw (add-comm 1 n, add-one) h))

@@ -19,3 +19,10 @@ and-left false b e = e
 pub and-right : (a b : Bool) → (a and b) ≡ true → b ≡ true
 and-right true b e = e
 and-right false b e = absurd (true-is e)
+
+-- the same of tests that pass
+pub passes-left : (a b : Bool) → T (a and b) → T a
+passes-left a b t = true-is (and-left a b (is-true (a and b) t))
+
+pub passes-right : (a b : Bool) → T (a and b) → T b
+passes-right a b t = true-is (and-right a b (is-true (a and b) t))

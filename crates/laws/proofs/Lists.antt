@@ -1,13 +1,13 @@
 -- Laws of lists beside those of lib.Seq, with indices as code writes them (`i + 1`).
 -- Assumes nothing.
-use mathlib.Core.List.{List, [], _∷_, _++_}
-use mathlib.Core.Path.{_≡_, refl, ap, _∙_}
+use mathlib.Core.List.{List, [], _∷_, _++_, map, map-append, append-nil}
+use mathlib.Core.Path.{_≡_, refl, sym, ap, _∙_}
 use Prim.Native.Nat.{ℕ, zero, suc, _+_, _-_, _≤_, _<_}
 use native.Mathlib.Nat.{le-refl, sub-zero, zero-sub, suc-sub-suc, le-of-suc-le-suc, not-suc-le-zero}
 use native.Mathlib.Numerals.{add-one}
 use native.Mathlib.Omega.{arith}
-use lib.ListN.{length, take, drop, set, getD, replicate, length-drop, length-take, drop-of-length-le}
-use lib.Seq.{take-at, drop-append-add, length-take-le, getD-take, take-suc, drop-cons, getD-drop, take-suc-set, take-all, paste, paste-suc}
+use lib.ListN.{length, take, drop, set, getD, replicate, length-drop, length-take, length-map, drop-of-length-le}
+use lib.Seq.{getD-at, set-at, append-snoc, set-getD, take-at, drop-append-add, length-take-le, getD-take, take-suc, drop-cons, getD-drop, take-suc-set, take-all, paste, paste-suc}
 
 -- a turn of a loop that fills a list from the front
 pub take-more {ℓ} : {A : Type ℓ} (l : List A) (i : ℕ) (a : A) → i < length l → take (i + 1) (set l i a)
@@ -76,3 +76,30 @@ front4 (w ∷ x ∷ []) a b c d h = absurd (not-suc-le-zero (le-of-suc-le-suc (l
 front4 (w ∷ x ∷ y ∷ []) a b c d h =
     absurd (not-suc-le-zero (le-of-suc-le-suc (le-of-suc-le-suc (le-of-suc-le-suc h))))
 front4 (w ∷ x ∷ y ∷ z ∷ l) a b c d h = refl
+
+pub split4 {ℓ} : {A : Type ℓ} (l : List A) (z : A) → 4 ≤ length l
+    → l ≡ getD l 0 z ∷ getD l 1 z ∷ getD l 2 z ∷ getD l 3 z ∷ drop 4 l
+split4 l z h =
+    let e = front4 l (getD l 0 z) (getD l 1 z) (getD l 2 z) (getD l 3 z) h in
+    rw (set-getD l 0 z, set-getD l 1 z, set-getD l 2 z, set-getD l 3 z) at e
+
+-- a turn of a loop that maps a list in place
+pub map-more : {A : Type 0} (f : A → A) (l : List A) (i : ℕ) (z : A) {r : List A} {v : A} → r ≡ map f
+    (take i l) ++ drop i l
+    → i < length l → v ≡ f (getD r i z) → set r i v ≡ map f (take (i + 1) l) ++ drop (i + 1) l
+map-more f l i z {r} {v} e h q =
+    let size : length (map f (take i l)) ≡ i = length-map (take i l) f ∙ length-take-le i l (omega arith) in
+    let split : r ≡ map f (take i l) ++ (getD l i z ∷ drop (i + 1) l) = e ∙ rw (drop-more l i z h) in
+    let read : getD r i z ≡ getD l i z = rw split (getD-at (map f (take i l)) (getD l i z)
+    (drop (i + 1) l) z i size) in
+    let front : map f (take (i + 1) l) ≡ map f (take i l) ++ (f (getD l i z) ∷ []) =
+    rw (add-one, take-suc l i z h, map-append)
+    in
+    rw (split, front, q, read)
+    (set-at (map f (take i l)) (getD l i z) (drop (i + 1) l) (f (getD l i z)) i size
+    ∙ sym (append-snoc (map f (take i l)) (f (getD l i z)) (drop (i + 1) l)))
+
+pub map-done : {A : Type 0} (f : A → A) (l : List A) (n : ℕ) → length l ≡ n → map f (take n l) ++ drop n l
+    ≡ map f l
+map-done f l n e =
+    rw (take-all n l (omega arith), drop-of-length-le l {i = n} (omega arith), append-nil (map f l))

@@ -12,6 +12,10 @@ bytes (suc n) x = x / 2 ^ (n * 8) % 2 ^ 8 ∷ bytes n x
 abbrev pub number2 : ℕ → ℕ → ℕ
 number2 a b = a * 2 ^ 8 + b
 
+-- the number that three bytes stand for
+abbrev pub number3 : ℕ → ℕ → ℕ → ℕ
+number3 a b c = a * 2 ^ 16 + b * 2 ^ 8 + c
+
 -- the number that four bytes stand for
 abbrev pub number4 : ℕ → ℕ → ℕ → ℕ → ℕ
 number4 a b c d = a * 2 ^ 24 + b * 2 ^ 16 + c * 2 ^ 8 + d

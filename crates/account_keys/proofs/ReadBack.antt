@@ -1,0 +1,180 @@
+-- The stored list reads back as it was written, and a list that reads is the writing of what it reads as.
+-- Assumes nothing.
+use mathlib.Core.Bool.{Bool, true, false}
+use mathlib.Core.List.{List, [], _∷_}
+use mathlib.Core.Path.{_≡_, refl, sym, ap, _∙_}
+use Prim.Native.Nat.{ℕ, zero, suc, _+_, _-_, _*_, _/_, _%_, _≤_, _<_}
+use native.Mathlib.Nat.{le-refl, le-of-suc-le-suc, not-suc-le-zero}
+use native.Mathlib.Omega.{arith}
+use lib.Dec.{leb, eqb}
+use lib.ListN.{length, take, drop, getD, length-drop}
+use lib.Seq.{take-all, take-suc, take-length, take-at, drop-append-add, drop-drop, take-add, length-take-le}
+use borrow.Author.Tests.{leb-true, eqb-true}
+use Rattle.laws.proofs.All.{all-get, all-append}
+use Rattle.laws.proofs.Choice.{and-left, and-right}
+use Rattle.laws.proofs.Lists.{split4}
+use Rattle.laws.specs.BigEndian.{number2}
+use Rattle.laws.specs.Lists.{All}
+use Rattle.account_keys.specs.Keys.{Valid, Sized, limit, held, kept, owned}
+use Rattle.account_keys.specs.Promises.{ReadsBack, OnlyWritings}
+use Rattle.account_keys.specs.StoredList.{formNumber, keyAt, keysIn, keyBytes, wellSized, writing, reading, readingOf}
+use Rattle.account_keys.specs.declared.AccountKey.{AccountKey}
+use Rattle.account_keys.specs.declared.ListForm.the-variants.{WellFormed, Malformed}
+use Rattle.account_keys.specs.declared.Reading.{Reading}
+use Rattle.basics.specs.Bytes.{sixteenAt}
+use Rattle.account_keys.proofs.Laws.{nowhere, held-kept, kept-valid, count-held}
+use Rattle.account_keys.proofs.StoredList.{bytes-snoc, text-long, keys-long, accepted, sizes-agree}
+
+-- ---- read what was written
+
+-- key i of the bytes of a list of keys
+bytes-at : (l : List AccountKey) → All Sized l → (i : ℕ) → i < length l
+    → sixteenAt (16 * i) (keyBytes l) ≡ getD l i nowhere .bytes
+unfolding keyBytes
+bytes-at [] p i h = absurd (not-suc-le-zero h)
+bytes-at (k ∷ ks) p zero h = take-at (k .bytes) (keyBytes ks) 16 (p .0)
+bytes-at (k ∷ ks) p (suc i) h =
+    let at : 16 * suc i ≡ length (k .bytes) + 16 * i = omega (arith, p .0) in
+    rw (at, drop-append-add (k .bytes) (keyBytes ks) (16 * i)) (bytes-at ks (p .1) i (le-of-suc-le-suc h))
+
+key-written : (l : List AccountKey) → All Sized l → (i : ℕ) → i < length l → keyAt (writing l) i
+    ≡ getD l i nowhere
+unfolding writing
+key-written l p i h =
+    let e : sixteenAt (4 + 16 * i) (writing l) ≡ getD l i nowhere .bytes =
+    rw (← drop-drop (16 * i) 4 (writing l)) (bytes-at l p i h)
+    in
+    λ j. record { bytes = e j }
+
+keys-written : (l : List AccountKey) → All Sized l → (n : ℕ) → n ≤ length l → keysIn (writing l) n ≡ take n l
+unfolding keysIn
+keys-written l p zero h = refl
+keys-written l p (suc n) h =
+    rw (keys-written l p n (omega arith), key-written l p n h, take-suc l n nowhere h)
+
+pub reads-back : ReadsBack
+unfolding writing
+reads-back ks v =
+    let l : List AccountKey = held ks in
+    let n : ks .count ≡ length l = count-held ks (v .canonical) in
+    let few : length l ≤ limit = omega (arith, v .canonical .few) in
+    let long : length (writing l) ≡ 4 + 16 * length l = text-long l (v .sized) ∙ regroup (length l) in
+    let keys : keysIn (writing l) (length l) ≡ l = keys-written l (v .sized) (length l) (le-refl (length l))
+    ∙ take-length l in
+    sizes-agree (writing l) (omega (arith, long)) (omega (arith, long, few)) refl few long
+    ∙ ap readingOf keys ∙ accepted l (v .known) ∙ (λ i. record
+    { form = WellFormed; keys = sym (v .canonical .whole) i })
+  where
+    regroup : (n : ℕ) → 2 + 16 * n + 2 ≡ 4 + 16 * n
+    regroup n = omega arith
+
+-- ---- write what was read
+
+keys-bytes : (b : List ℕ) (n : ℕ) → keyBytes (keysIn b n) ≡ take (16 * n) (drop 4 b)
+unfolding keysIn keyBytes
+keys-bytes b zero = refl
+keys-bytes b (suc n) =
+    let more : 16 * suc n ≡ 16 * n + 16 = omega arith in
+    bytes-snoc (keysIn b n) (keyAt b n)
+    ∙ rw (keys-bytes b n, more, take-add (16 * n) 16 (drop 4 b), drop-drop (16 * n) 4 b)
+
+keys-sized : (b : List ℕ) (n : ℕ) → 4 + 16 * n ≤ length b → All Sized (keysIn b n)
+unfolding keysIn
+keys-sized b zero h = tt
+keys-sized b (suc n) h =
+    let inside : 16 ≤ length (drop (4 + 16 * n) b) = simp length-drop (omega arith) in
+    let key : Sized (keyAt b n) = length-take-le 16 (drop (4 + 16 * n) b) inside in
+    all-append Sized (keysIn b n) (keyAt b n ∷ []) (keys-sized b n (omega arith)) (key, tt)
+
+-- the header says what it must
+header : (b : List ℕ) → All (λ x. x < 256) b → 4 ≤ length b → number2 (getD b 0 0) (getD b 1 0) ≡ length b - 2
+    → getD b 2 0 ≡ 1
+    → length b ≡ 4 + 16 * getD b 3 0 → writing (keysIn b (getD b 3 0)) ≡ b
+unfolding writing
+header b p h e v s =
+    let n : ℕ = getD b 3 0 in
+    let count : length (keysIn b n) ≡ n = keys-long b n in
+    let b0 : getD b 0 0 < 256 = all-get (λ x. x < 256) b p 0 0 (omega arith) in
+    let b1 : getD b 1 0 < 256 = all-get (λ x. x < 256) b p 1 0 (omega arith) in
+    let high : (2 + 16 * n) / 256 % 256 ≡ getD b 0 0 = omega arith in
+    let low : (2 + 16 * n) / 1 % 256 ≡ getD b 1 0 = omega arith in
+    let rest : keyBytes (keysIn b n) ≡ drop 4 b =
+    keys-bytes b n ∙ take-all (16 * n) (drop 4 b) (simp length-drop (omega arith))
+    in
+    rw (count, high, low, rest)
+    (ap (λ (x : ℕ). getD b 0 0 ∷ getD b 1 0 ∷ x ∷ getD b 3 0 ∷ drop 4 b) (sym v) ∙ sym (split4 b 0 h))
+
+-- which tests a list that reads has passed
+record Passed (b : List ℕ) : Type 0 where
+  enough : 4 ≤ length b
+  sizes : number2 (getD b 0 0) (getD b 1 0) ≡ length b - 2
+  version : getD b 2 0 ≡ 1
+  few : getD b 3 0 ≤ limit
+  whole : length b ≡ 4 + 16 * getD b 3 0
+
+passed : (b : List ℕ) → wellSized b ≡ true → Passed b
+unfolding wellSized
+passed b e =
+    let t2 = and-right (leb 4 (length b)) _ e in
+    let t3 = and-right (eqb (number2 (getD b 0 0) (getD b 1 0)) (length b - 2)) _ t2 in
+    let t4 = and-right (eqb (getD b 2 0) 1) _ t3 in
+    let t5 = and-right (leb (getD b 3 0) limit) _ t4 in
+    record {
+      enough = leb-true _ _ (and-left (leb 4 (length b)) _ e);
+      sizes = eqb-true _ _ (and-left (eqb (number2 (getD b 0 0) (getD b 1 0)) (length b - 2)) _ t2);
+      version = eqb-true _ _ (and-left (eqb (getD b 2 0) 1) _ t3);
+      few = leb-true _ _ (and-left (leb (getD b 3 0) limit) _ t4);
+      whole = eqb-true _ _ t5;
+    }
+
+differ : Malformed ≡ WellFormed → ⊥
+differ e = let z : _≡_ {A = ℕ} 14 0 = ap formNumber e in omega arith
+
+-- how a list reads, by the two tests
+reads-as : (b : List ℕ) → wellSized b ≡ true → reading b ≡ readingOf (keysIn b (getD b 3 0))
+unfolding reading
+reads-as b e = rw e
+
+reads-not : (b : List ℕ) → wellSized b ≡ false → reading b .form ≡ Malformed
+unfolding reading
+reads-not b e = rw e
+
+keys-not : (l : List AccountKey) → owned l ≡ false → readingOf l .form ≡ Malformed
+keys-not l e = rw e
+
+-- a list that reads has well-formed sizes and owned keys
+both-passed : (b : List ℕ) → reading b .form ≡ WellFormed → (wellSized b ≡ true) ×
+    (owned (keysIn b (getD b 3 0)) ≡ true)
+both-passed b f = go (wellSized b) (owned (keysIn b (getD b 3 0))) refl refl
+  where
+    go : (s o : Bool) → wellSized b ≡ s → owned (keysIn b (getD b 3 0)) ≡ o
+        → (wellSized b ≡ true) × (owned (keysIn b (getD b 3 0)) ≡ true)
+    go true true p q = (p, q)
+    go true false p q = absurd (differ (sym (ap (λ (r : Reading). r .form) (reads-as b p) ∙ keys-not
+        (keysIn b (getD b 3 0)) q) ∙ f))
+    go false o p q = absurd (differ (sym (reads-not b p) ∙ f))
+
+-- what a list that reads gives
+module _ (b : List ℕ) (f : reading b .form ≡ WellFormed) where
+  tests : (wellSized b ≡ true) × (owned (keysIn b (getD b 3 0)) ≡ true)
+  tests = both-passed b f
+
+  sizes : Passed b
+  sizes = passed b (tests .0)
+
+  keys-are : reading b .keys ≡ kept (keysIn b (getD b 3 0))
+  keys-are = ap (λ (x : Reading). x .keys) (reads-as b (tests .0) ∙ accepted (keysIn b (getD b 3 0)) (tests .1))
+
+  pub reads-valid : Valid (reading b .keys)
+  reads-valid =
+      let few : length (keysIn b (getD b 3 0)) ≤ limit = omega (arith, keys-long b (getD b 3 0), sizes .few) in
+      rw keys-are
+      (kept-valid (keysIn b (getD b 3 0)) few (keys-sized b (getD b 3 0) (omega (arith, sizes .whole))) (tests .1))
+
+  reads-whole : All (λ x. x < 256) b → writing (held (reading b .keys)) ≡ b
+  reads-whole p =
+      rw (keys-are, held-kept (keysIn b (getD b 3 0)))
+      (header b p (sizes .enough) (sizes .sizes) (sizes .version) (sizes .whole))
+
+pub only-writings : OnlyWritings
+only-writings b p f = (reads-valid b f, reads-whole b f p)

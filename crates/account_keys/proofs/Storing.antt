@@ -1,0 +1,62 @@
+-- An account key write keeps the list valid.
+-- Assumes nothing.
+use mathlib.Core.Bool.{Bool, true, false, not}
+use mathlib.Core.List.{List, [], _∷_, _++_}
+use mathlib.Core.Path.{_≡_, refl, _∙_}
+use Prim.Native.Nat.{ℕ, _≤_, _<_}
+use native.Mathlib.Omega.{arith}
+use lib.Dec.{leb, eqb}
+use lib.ListN.{length, drop, getD, length-append, length-drop}
+use borrow.Author.Tests.{eq-eqb, leb-false}
+use Rattle.laws.proofs.All.{all-append, all-drop}
+use Rattle.laws.proofs.Choice.{and-right}
+use Rattle.laws.specs.Choice.{_or_}
+use Rattle.laws.specs.Lists.{All}
+use Rattle.account_keys.specs.Keys.{Valid, Sized, limit, held, kept, member, owned, stored}
+use Rattle.account_keys.specs.Promises.{StoresValid}
+use Rattle.account_keys.specs.declared.AccountKey.{AccountKey}
+use Rattle.basics.specs.Bytes.{same}
+use Rattle.account_keys.proofs.Laws.{kept-valid, count-held}
+use Rattle.account_keys.proofs.StoredList.{owned-snoc}
+
+-- one key more, that is not held
+one-more : (l : List AccountKey) (k : AccountKey) → length l < limit → All Sized l → owned l ≡ true → Sized k
+    → getD (k .bytes) 0 0 ≡ 0x04 → member l k ≡ false → Valid (kept (l ++ (k ∷ [])))
+one-more l k h p o s f m =
+    kept-valid (l ++ (k ∷ [])) (simp length-append (omega arith)) (all-append Sized l (k ∷ []) p (s, tt))
+    (owned-snoc l k ∙ rw (o, eq-eqb (getD (k .bytes) 0 0) 0x04 f, m))
+
+or-false : (a b : Bool) → (a or b) ≡ false → b ≡ false
+or-false true b e = absurd (differ e)
+  where
+    differ : true ≡ false → ⊥
+    differ e = let z : _≡_ {A = ℕ} 0 1 = cc in omega arith
+or-false false b e = e
+
+member-drop : (l : List AccountKey) (k : AccountKey) → member l k ≡ false → member (drop 1 l) k ≡ false
+member-drop [] k e = e
+member-drop (x ∷ xs) k e = or-false (same (x .bytes) (k .bytes)) (member xs k) e
+
+owned-drop : (l : List AccountKey) → owned l ≡ true → owned (drop 1 l) ≡ true
+unfolding owned
+owned-drop [] e = e
+owned-drop (x ∷ xs) e = and-right (not (member xs x)) (owned xs) (and-right (eqb (getD (x .bytes) 0 0) 4) _ e)
+
+pub stores-valid : StoresValid
+unfolding stored
+stores-valid ks k v s f = go (member l k) (leb limit (length l)) refl refl
+  where
+    l : List AccountKey
+    l = held ks
+
+    few : length l ≤ limit
+    few = omega (arith, v .canonical .few, count-held ks (v .canonical))
+
+    go : (m t : Bool) → member l k ≡ m → leb limit (length l) ≡ t → Valid (kept (stored l k))
+    go true t p q = rw p (kept-valid l few (v .sized) (v .known))
+    go false true p q =
+        let room : length (drop 1 l) < limit = simp length-drop (omega (arith, few)) in
+        rw (p, q)
+        (one-more (drop 1 l) k room (all-drop Sized 1 l (v .sized)) (owned-drop l (v .known)) s f
+        (member-drop l k p))
+    go false false p q = rw (p, q) (one-more l k (leb-false limit (length l) q) (v .sized) (v .known) s f p)

@@ -1,0 +1,87 @@
+-- Document 01: overflow marker, links, pairing mode, rotation, power-on and factory reset.
+-- Assumes nothing.
+use mathlib.Core.Bool.{Bool, false}
+use mathlib.Core.List.{List, []}
+use Prim.Native.Nat.{ℕ}
+use lib.Dec.{ltb}
+use lib.ListN.{replicate}
+use Rattle.laws.specs.Choice.{if_then_else_}
+use Rattle.account_keys.specs.Keys.{kept}
+use Rattle.account_keys.specs.StoredList.{reading}
+use Rattle.account_keys.specs.declared.ListForm.{ListForm}
+use Rattle.account_keys.specs.declared.ListForm.the-variants.{WellFormed, Malformed}
+use Rattle.account_keys.specs.declared.AccountKeys.{AccountKeys}
+use Rattle.account_keys.specs.declared.Reading.{Reading}
+use Rattle.basics.specs.declared.Address.{Address}
+use Rattle.provider.specs.Device.{Effect, answers, takes, inTime, dropAll, dropAt, withGuard, withKeys, withBeacon}
+use Rattle.provider.specs.declared.Answer.the-variants.{UnknownLink, ListMalformed}
+use Rattle.provider.specs.declared.Device.{Device}
+use Rattle.provider.specs.declared.Start.{Start}
+use Rattle.request_guard.specs.Guard.{fresh}
+use Rattle.sessions.specs.Sessions.{allIdle}
+
+-- "Overflow marker. Has no clock and always gets 0. Drops K on all links. Nothing else changes."
+abbrev pub overflow : Device → Effect
+overflow d = takes (dropAll d)
+
+-- "Link up, link down. Both drop that link's K, also when repeated."
+unfoldable pub linkChanged : Device → ℕ → ℕ → Effect
+linkChanged d l t =
+    if ltb 7 l then answers d UnknownLink [] else
+    inTime d t [] (λ e. takes (dropAt e l))
+
+-- "Pairing mode on or off .. Nothing else changes."
+unfoldable pub pairingMode : Device → Bool → ℕ → Effect
+pairingMode d on t =
+    inTime d t [] (λ e. takes (withBeacon e (record {
+      ble = e .beacon .ble;
+      salt = e .beacon .salt;
+      pairing =
+          on;
+    })))
+
+-- "address rotated (new BLE address and new 2-byte filter salt). Nothing else changes."
+unfoldable pub addressRotated : Device → Address → List ℕ → ℕ → Effect
+addressRotated d ble salt t =
+    inTime d t [] (λ e. takes (withBeacon e (record { ble = ble; salt = salt; pairing = e .beacon .pairing })))
+
+-- "Factory reset. Empties the key list and spent salts, drops every K, sets the count to 0."
+unfoldable pub factoryReset : Device → ℕ → Effect
+factoryReset d t = inTime d t [] (λ e. takes (withKeys (withGuard (dropAll e) fresh) (kept [])))
+
+-- "Starts from a stored list, addresses, model ID and salt. All links idle, count 0, no spent salts, pairing mode off, clock 0."
+abbrev pub started : AccountKeys → Start → Device
+started ks s =
+    record {
+      clock = record { 0 = 0 };
+      keys = ks;
+      sessions = allIdle;
+      guard = fresh;
+      identity = s .identity;
+      beacon = record { ble = s .ble; salt = s .salt; pairing = false };
+    }
+
+-- "no device made; an earlier one stays as it was"
+abbrev pub byForm : ListForm → Effect → Effect → Effect
+byForm WellFormed x y = x
+byForm Malformed x y = y
+
+-- "Power-on knows only 0 and 14."
+unfoldable pub powerOn : Device → List ℕ → Start → Effect
+powerOn d stored s =
+    byForm (reading stored .form) (takes (started (reading stored .keys) s)) (answers d ListMalformed [])
+
+-- the value before any device
+abbrev pub noAddress : Address
+noAddress = record { bytes = replicate 6 0 }
+
+abbrev pub off : Device
+off =
+    record {
+      clock = record { 0 = 0 };
+      keys = kept [];
+      sessions = allIdle;
+      guard = fresh;
+      identity = record { public = noAddress; model = replicate 3 0 };
+      beacon = record { ble = noAddress; salt = replicate 2 0; pairing = false };
+    }

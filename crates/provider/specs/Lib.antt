@@ -1,0 +1,9 @@
+pub mod Answers
+pub mod Device
+pub mod Control
+pub mod KeyBased
+pub mod Pairing
+pub mod Event
+pub mod Kinds
+pub mod Table
+pub mod Demands

@@ -1,0 +1,164 @@
+-- Demand 1: document 01's answer table, row by row, beside the definitions of the events.
+-- Assumes nothing.
+use mathlib.Core.Bool.{Bool, true, false, not}
+use mathlib.Core.List.{List, [], _∷_}
+use mathlib.Core.Path.{_≡_}
+use Prim.Native.Nat.{ℕ}
+use lib.Dec.{ltb}
+use lib.ListN.{length}
+use Rattle.laws.specs.Choice.{if_then_else_, _and_}
+use Rattle.account_keys.specs.StoredList.{reading}
+use Rattle.account_keys.specs.declared.ListForm.{ListForm}
+use Rattle.account_keys.specs.declared.ListForm.the-variants.{WellFormed, Malformed}
+use Rattle.key_based.specs.Request.{hasPublicKey, sized, opened, Found, found, nothing, requestSalt}
+use Rattle.provider.specs.Device.{clockStep, dropAll, dropAt, withGuard}
+use Rattle.provider.specs.Event.{Event, Overflow, LinkUp, LinkDown, PairingMode, AddressRotated, PowerOn, FactoryReset, KeyBasedWrite, PairingStarted, ConfirmationNeeded, PasskeyWrite, PairingEnded, AccountKeyWrite, lent, step, next}
+use Rattle.provider.specs.KeyBased.{tried}
+use Rattle.provider.specs.Kinds.{linkOf, clockOf}
+use Rattle.provider.specs.Pairing.{isStage, refusedCapability, badBlock}
+use Rattle.provider.specs.declared.Answer.{Answer}
+use Rattle.provider.specs.declared.Answer.the-variants.{Taken, UnknownLink, WrongLength, PasskeyTooLarge, ClockWentBack, LockedOut, NotInPairingMode, NoKeyFits, SaltSpent, LinkIdle, WrongStage, CapabilityRefused, BadBlock, OutputTooShort, ListMalformed}
+use Rattle.provider.specs.declared.Device.{Device}
+use Rattle.request_guard.specs.Guard.{remembered, spent, locked, failedAt}
+use Rattle.sessions.specs.Sessions.{sessionAt}
+use Rattle.sessions.specs.declared.Session.{Session}
+use Rattle.sessions.specs.declared.Stage.{Stage}
+use Rattle.sessions.specs.declared.Stage.the-variants.{Idle, Asked, Pairing, Confirming, Proved, Paired}
+
+-- a row of the table for one event: its answer, and whether its condition holds
+pub record Row : Type 0 where
+  pub answer : Answer
+  pub given : Bool
+
+abbrev pub row : Answer → Bool → Row
+row a b = record { answer = a; given = b }
+
+-- the first row whose condition holds; 0, "taken", if none does
+unfoldable pub firstGiven : List Row → Answer
+firstGiven [] = Taken
+firstGiven (r ∷ rs) = if r .given then r .answer else firstGiven rs
+
+-- ---- the conditions
+
+-- 1: "link above 7"
+abbrev pub noLink : ℕ → Row
+noLink l = row UnknownLink (ltb 7 l)
+
+-- 13: "lent output too short"
+abbrev pub shortOutput : List ℕ → Row
+shortOutput out = row OutputTooShort (ltb (length out) 16)
+
+-- 4: "clock below the stored clock"
+abbrev pub early : Device → ℕ → Row
+early d t = row ClockWentBack (ltb t (d .clock .0))
+
+-- 7: "no candidate fits"; 8: "fits, salt remembered"
+abbrev pub noneFits : Found → Bool
+noneFits (found n k) = false
+noneFits (nothing n) = true
+
+abbrev pub saltKnown : Device → List ℕ → Found → Bool
+saltKnown d request (found n k) = spent (remembered (d .guard .spent)) (requestSalt (opened k request))
+saltKnown d request (nothing n) = false
+
+-- 9: "on an idle link"; 10: "link's stage is not the one this event needs"
+abbrev pub idleLink : Session → Row
+idleLink s = row LinkIdle (isStage (s .stage) Idle)
+
+abbrev pub otherStage : Stage → Session → Row
+otherStage needed s = row WrongStage (not (isStage (s .stage) needed))
+
+-- 14: "stored list malformed"
+abbrev pub malformed : ListForm → Bool
+malformed WellFormed = false
+malformed Malformed = true
+
+-- the session of link l at moment t
+abbrev pub sessionAfter : Device → ℕ → ℕ → Session
+sessionAfter d l t = sessionAt (clockStep t d .sessions) l
+
+-- ---- "Checked in this order: 1, 2, 3, 13, 4, then 5, 6, 7, 8 for key-based writes, or 9, 10, 11, 12 for pairing, passkey and
+-- account key events. Power-on knows only 0 and 14."
+unfoldable pub rows : Device → Event → List Row
+rows d Overflow = []
+rows d (LinkUp l t) = noLink l ∷ early d t ∷ []
+rows d (LinkDown l t) = noLink l ∷ early d t ∷ []
+rows d (PairingMode on t) = early d t ∷ []
+rows d (AddressRotated ble salt t) = early d t ∷ []
+rows d (PowerOn stored start) = row ListMalformed (malformed (reading stored .form)) ∷ []
+rows d (FactoryReset t) = early d t ∷ []
+rows d (KeyBasedWrite l t request element salt out) =
+    noLink l
+    ∷ row WrongLength (not (sized request))
+    ∷ shortOutput out
+    ∷ early d t
+    ∷ row LockedOut (locked (clockStep t d .guard))
+    ∷ row NotInPairingMode (hasPublicKey request and not (clockStep t d .beacon .pairing))
+    ∷ row NoKeyFits (noneFits (tried (clockStep t d) element request))
+    ∷ row SaltSpent (saltKnown (clockStep t d) request (tried (clockStep t d) element request))
+    ∷ []
+rows d (PairingStarted l t capability) =
+    noLink l
+    ∷ early d t
+    ∷ idleLink (sessionAfter d l t)
+    ∷ otherStage Asked (sessionAfter d l t)
+    ∷ row CapabilityRefused (refusedCapability capability)
+    ∷ []
+rows d (ConfirmationNeeded l t passkey) =
+    noLink l
+    ∷ row PasskeyTooLarge (ltb 999999 passkey)
+    ∷ early d t
+    ∷ idleLink (sessionAfter d l t)
+    ∷ otherStage Pairing (sessionAfter d l t)
+    ∷ []
+rows d (PasskeyWrite l t block salt out) =
+    noLink l
+    ∷ shortOutput out
+    ∷ early d t
+    ∷ idleLink (sessionAfter d l t)
+    ∷ otherStage Confirming (sessionAfter d l t)
+    ∷ row BadBlock (badBlock 0x02 (sessionAfter d l t .key) block)
+    ∷ []
+rows d (PairingEnded l t true) =
+    noLink l ∷ early d t ∷ idleLink (sessionAfter d l t) ∷ otherStage Proved (sessionAfter d l t) ∷ []
+rows d (PairingEnded l t false) = noLink l ∷ early d t ∷ idleLink (sessionAfter d l t) ∷ []
+rows d (AccountKeyWrite l t block) =
+    noLink l
+    ∷ early d t
+    ∷ idleLink (sessionAfter d l t)
+    ∷ otherStage Paired (sessionAfter d l t)
+    ∷ row BadBlock (badBlock 0x04 (sessionAfter d l t .key) block)
+    ∷ []
+
+-- ---- the column "Changes"
+
+-- the device after a refusal, on link l at moment t
+abbrev pub changed : Answer → Device → ℕ → ℕ → Device
+changed Taken d l t = d
+changed UnknownLink d l t = d
+changed WrongLength d l t = d
+changed PasskeyTooLarge d l t = d
+changed ClockWentBack d l t = dropAll d
+changed LockedOut d l t = clockStep t d
+changed NotInPairingMode d l t = clockStep t d
+changed NoKeyFits d l t = withGuard (clockStep t d) (failedAt t (clockStep t d .guard))
+changed SaltSpent d l t = clockStep t d
+changed LinkIdle d l t = clockStep t d
+changed WrongStage d l t = dropAt (clockStep t d) l
+changed CapabilityRefused d l t = dropAt (clockStep t d) l
+changed BadBlock d l t = dropAt (clockStep t d) l
+changed OutputTooShort d l t = d
+changed ListMalformed d l t = d
+
+abbrev pub answerOf : Device → Event → Answer
+answerOf d e = step d e .gives .reply .answer
+
+-- "gets one answer from document 01's table": the answer is n exactly if row n is the first whose condition holds
+abbrev pub AnswerTable : Type 0
+AnswerTable = (d : Device) (e : Event) → answerOf d e ≡ firstGiven (rows d e)
+
+-- "A refusal writes nothing to lent memory and changes only what its row names."
+abbrev pub Refusals : Type 0
+Refusals =
+    (d : Device) (e : Event) → (answerOf d e ≡ Taken → ⊥)
+    → (step d e .leaves ≡ lent e) × (next d e ≡ changed (answerOf d e) d (linkOf e) (clockOf e))

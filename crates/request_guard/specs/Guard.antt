@@ -1,0 +1,75 @@
+-- Document 01, "The device and its events": spent salts and counted failures.
+-- Assumes nothing.
+use mathlib.Core.Path.{_≡_}
+use mathlib.Core.Bool.{Bool, true, false}
+use mathlib.Core.List.{List, [], _∷_, _++_}
+use Prim.Native.Nat.{ℕ, _+_, _-_, _≤_}
+use lib.Dec.{leb, eqb}
+use lib.ListN.{length, take, drop, replicate}
+use Rattle.laws.specs.Choice.{if_then_else_, _and_, _or_}
+use Rattle.laws.specs.Lists.{padded}
+use Rattle.basics.specs.Bytes.{same}
+use Rattle.request_guard.specs.declared.Failures.{Failures}
+use Rattle.request_guard.specs.declared.Guard.{Guard}
+use Rattle.request_guard.specs.declared.Salt.{Salt}
+use Rattle.request_guard.specs.declared.SpentSalts.{SpentSalts}
+
+-- "The last 16 accepted salts are remembered"
+abbrev pub saltLimit : ℕ
+saltLimit = 16
+
+abbrev pub noSalt : Salt
+noSalt = record { length = 0; bytes = replicate 8 0 }
+
+-- the salts remembered, the last one accepted last
+abbrev pub remembered : SpentSalts → List Salt
+remembered ss = take (ss .count) (ss .salts)
+
+-- the value that remembers a list of salts: its unused places are zero
+abbrev pub salts : List Salt → SpentSalts
+salts l = record { salts = padded saltLimit noSalt l; count = length l }
+
+-- "two are equal if length and bytes are"
+abbrev pub sameSalt : Salt → Salt → Bool
+sameSalt s u = eqb (s .length) (u .length) and same (s .bytes) (u .bytes)
+
+abbrev pub spent : List Salt → Salt → Bool
+spent [] s = false
+spent (x ∷ xs) s = sameSalt x s or spent xs s
+
+-- the list after one more, "the last 16" of it
+unfoldable pub remembering : List Salt → Salt → List Salt
+remembering l s = if leb saltLimit (length l) then drop 1 l ++ (s ∷ []) else l ++ (s ∷ [])
+
+abbrev pub noFailures : Failures
+noFailures = record { count = 0; last = record { 0 = 0 } }
+
+abbrev pub withFailures : Guard → Failures → Guard
+withFailures g f = record { spent = g .spent; failures = f }
+
+-- "count 0, no spent salts"
+abbrev pub fresh : Guard
+fresh = record { spent = salts []; failures = noFailures }
+
+-- "count is 10"
+abbrev pub locked : Guard → Bool
+locked g = eqb (g .failures .count) 10
+
+-- "count plus 1, this failure's moment stored"
+abbrev pub failedAt : ℕ → Guard → Guard
+failedAt t g = withFailures g (record { count = g .failures .count + 1; last = record { 0 = t } })
+
+-- "remember the salt, count becomes 0"
+abbrev pub acceptedWith : Salt → Guard → Guard
+acceptedWith s g = record { spent = salts (remembering (remembered (g .spent)) s); failures = noFailures }
+
+-- "if the last counted failure is 300,000 ms or more old, the failure count becomes 0"
+unfoldable pub guardAt : ℕ → Guard → Guard
+guardAt t g = if leb 300000 (t - g .failures .last .0) then withFailures g noFailures else g
+
+-- what holds of every guard that power-on or an event left
+pub record Valid (g : Guard) : Type 0 where
+  pub few : g .spent .count ≤ saltLimit
+  pub whole : g .spent ≡ salts (remembered (g .spent))
+  pub bounded : g .failures .count ≤ 10
+  pub cleared : g .failures .count ≡ 0 → g .failures ≡ noFailures
