@@ -2,7 +2,7 @@
 -- Assumes nothing.
 use mathlib.Core.Bool.{Bool, true, false, not}
 use mathlib.Core.List.{List, [], _∷_}
-use mathlib.Core.Path.{_≡_, refl}
+use mathlib.Core.Path.{_≡_, refl, ap, _∙_}
 use Prim.Native.Nat.{ℕ}
 use lib.Dec.{eqb, ltb}
 use lib.ListN.{length}
@@ -13,14 +13,15 @@ use Rattle.account_keys.specs.declared.ListForm.the-variants.{WellFormed, Malfo
 use Rattle.aes128.specs.Cipher.{invCipher}
 use Rattle.key_based.specs.Request.{hasPublicKey, sized, opened, Found, found, nothing, requestSalt}
 use Rattle.key_based.specs.declared.Element.{Element}
-use Rattle.provider.specs.Answers.{plain, afterTrying}
+use Rattle.provider.specs.Answers.{answerNumber, plain, afterTrying}
 use Rattle.provider.specs.Control.{linkChanged, pairingMode, addressRotated, factoryReset, powerOn, byForm, started}
 use Rattle.provider.specs.Device.{answers, takes, clockStep}
 use Rattle.provider.specs.Event.{Event, Overflow, LinkUp, LinkDown, PairingMode, AddressRotated, PowerOn, FactoryReset, KeyBasedWrite, PairingStarted, ConfirmationNeeded, PasskeyWrite, PairingEnded, AccountKeyWrite, lent, step}
 use Rattle.provider.specs.KeyBased.{tried, accepted, settled, keyBasedOn, keyBasedWrite}
 use Rattle.provider.specs.Kinds.{linkOf, clockOf}
 use Rattle.provider.specs.Pairing.{Act, refusedCapability, badBlock, begun, shows, proves, keeps, goesOn, passkeyIn, pairingStarted, confirmationNeeded, passkeyWrite, pairingEnded, accountKeyWrite}
-use Rattle.provider.specs.Table.{AnswerTable, Refusals, row, malformed, noneFits, saltKnown, sessionAfter, rows}
+use Rattle.provider.specs.Table.{Row, firstGiven, firstNumber, NumberTable, rows, AnswerTable, Refusals, row, malformed, noneFits, saltKnown, sessionAfter}
+use Rattle.provider.specs.declared.Answer.{Answer}
 use Rattle.provider.specs.declared.Answer.the-variants.{Taken, UnknownLink, WrongLength, PasskeyTooLarge, LockedOut, NotInPairingMode, NoKeyFits, SaltSpent, LinkIdle, CapabilityRefused, BadBlock, OutputTooShort, ListMalformed}
 use Rattle.provider.specs.declared.Device.{Device}
 use Rattle.request_guard.specs.Guard.{remembered, spent, locked}
@@ -144,3 +145,16 @@ answer-table d e = told d e .answer
 
 pub refusals : Refusals
 refusals d e = told d e .refusal
+
+first-number : (rs : List Row) → answerNumber (firstGiven rs) ≡ firstNumber rs
+unfolding firstGiven firstNumber
+first-number [] = refl
+first-number (r ∷ rs) = by-test (r .given) (r .answer) (firstGiven rs) (firstNumber rs) (first-number rs)
+  where
+    by-test : (b : Bool) (a c : Answer) (n : ℕ) → answerNumber c ≡ n
+        → answerNumber (if b then a else c) ≡ (if b then answerNumber a else n)
+    by-test true a c n e = refl
+    by-test false a c n e = e
+
+pub number-table : NumberTable
+number-table d e = ap answerNumber (answer-table d e) ∙ first-number (rows d e)

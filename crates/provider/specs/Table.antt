@@ -11,6 +11,7 @@ use Rattle.account_keys.specs.StoredList.{reading}
 use Rattle.account_keys.specs.declared.ListForm.{ListForm}
 use Rattle.account_keys.specs.declared.ListForm.the-variants.{WellFormed, Malformed}
 use Rattle.key_based.specs.Request.{hasPublicKey, sized, opened, Found, found, nothing, requestSalt}
+use Rattle.provider.specs.Answers.{answerNumber}
 use Rattle.provider.specs.Device.{clockStep, dropAll, dropAt, withGuard}
 use Rattle.provider.specs.Event.{Event, Overflow, LinkUp, LinkDown, PairingMode, AddressRotated, PowerOn, FactoryReset, KeyBasedWrite, PairingStarted, ConfirmationNeeded, PasskeyWrite, PairingEnded, AccountKeyWrite, lent, step, next}
 use Rattle.provider.specs.KeyBased.{tried}
@@ -37,6 +38,11 @@ row a b = record { answer = a; given = b }
 unfoldable pub firstGiven : List Row → Answer
 firstGiven [] = Taken
 firstGiven (r ∷ rs) = if r .given then r .answer else firstGiven rs
+
+-- its number in the document's table
+unfoldable pub firstNumber : List Row → ℕ
+firstNumber [] = 0
+firstNumber (r ∷ rs) = if r .given then answerNumber (r .answer) else firstNumber rs
 
 -- ---- the conditions
 
@@ -156,6 +162,10 @@ answerOf d e = step d e .gives .reply .answer
 -- "gets one answer from document 01's table": the answer is n exactly if row n is the first whose condition holds
 abbrev pub AnswerTable : Type 0
 AnswerTable = (d : Device) (e : Event) → answerOf d e ≡ firstGiven (rows d e)
+
+-- the same in the document's numbers
+abbrev pub NumberTable : Type 0
+NumberTable = (d : Device) (e : Event) → answerNumber (answerOf d e) ≡ firstNumber (rows d e)
 
 -- "A refusal writes nothing to lent memory and changes only what its row names."
 abbrev pub Refusals : Type 0
