@@ -1,17 +1,19 @@
 -- What each pairing event makes of a session, way by way.
 -- Assumes nothing.
-use mathlib.Core.Bool.{true, false}
-use mathlib.Core.List.{_∷_, List, []}
-use mathlib.Core.Path.{ap, _∙_, _≡_}
+use mathlib.Core.Bool.{Bool, true, false}
+use mathlib.Core.List.{_++_, _∷_, List, []}
+use mathlib.Core.Path.{refl, ap, _∙_, _≡_}
 use Prim.Native.Nat.{ℕ, _≤_, _<_}
 use native.Mathlib.Omega.{arith}
-use lib.ListN.{length, take, getD}
-use lib.Seq.{take-all}
+use lib.Dec.{eqb}
+use lib.ListN.{drop, length, take, getD}
+use lib.Seq.{paste, take-all}
 use borrow.Author.Tests.{lt-ltb, le-ltb, eq-eqb, ne-eqb}
 use Rattle.aes128.specs.Cipher.{invCipher}
 use Rattle.provider.specs.Answers.{plain}
-use Rattle.provider.specs.Pairing.{badBlock, keeps, begun, drops, goesOn}
+use Rattle.provider.specs.Pairing.{acted, proves, compared, passkeyIn, passkeyResponse, badBlock, keeps, begun, drops, goesOn}
 use Rattle.provider.specs.declared.Answer.the-variants.{Taken, BadBlock, CapabilityRefused}
+use Rattle.provider.specs.declared.Device.{Device}
 use Rattle.sessions.specs.Sessions.{idle, becomes}
 use Rattle.sessions.specs.declared.Session.{Session}
 use Rattle.sessions.specs.declared.Stage.the-variants.{Pairing}
@@ -61,3 +63,36 @@ module _ (block : List ℕ) (s : Session) where
       }
   unfolding keeps
   keeps-key e = rw e
+
+-- passkey write
+module _ (t : ℕ) (block salt out : List ℕ) (s : Session) where
+  pub proves-nothing : badBlock 0x02 (s .key) block ≡ true → proves t block salt out s ≡ drops BadBlock out
+  unfolding proves
+  proves-nothing e = rw e
+
+  pub proves-or-not : (p : List ℕ) → badBlock 0x02 (s .key) block ≡ false → p ≡ invCipher (s .key) block
+      → proves t block salt out s ≡ compared t salt out s p
+  unfolding proves
+  proves-or-not p e f = rw (e, ← f)
+
+-- the passkey compared: what it gives does not depend on the output, and what it leaves is the response
+module _ (d : Device) (l t : ℕ) (salt out : List ℕ) (s : Session) (p : List ℕ) where
+  pub compared-gives : acted d l (compared t [] [] s p) .gives ≡ acted d l (compared t salt out s p) .gives
+  compared-gives = go (eqb (passkeyIn p) (s .passkey)) refl
+    where
+      go : (b : Bool) → eqb (passkeyIn p) (s .passkey) ≡ b
+          → acted d l (compared t [] [] s p) .gives ≡ acted d l (compared t salt out s p) .gives
+      go true e = rw e
+      go false e = rw e
+
+  pub compared-leaves : passkeyResponse s salt ++ drop 16 out ≡ acted d l (compared t salt out s p) .leaves
+  compared-leaves = go (eqb (passkeyIn p) (s .passkey)) refl
+    where
+      go : (b : Bool) → eqb (passkeyIn p) (s .passkey) ≡ b
+          → passkeyResponse s salt ++ drop 16 out ≡ acted d l (compared t salt out s p) .leaves
+      go true e = rw e
+      go false e = rw e
+
+-- a block at the start of an output
+pub block-placed : (out r : List ℕ) → length r ≡ 16 → paste out 0 r 16 ≡ r ++ drop 16 out
+block-placed out r h = rw (take-all 16 r (omega arith))

@@ -5,7 +5,8 @@ use Prim.Native.Nat.{ℕ}
 use lib.Dec.{ltb}
 use Rattle.laws.specs.Choice.{if_then_else_}
 use Rattle.account_keys.specs.declared.AccountKeys.{AccountKeys}
-use Rattle.provider.specs.Answers.{plain}
+use Rattle.provider.specs.declared.Confirm.{Confirm}
+use Rattle.provider.specs.Answers.{plain, confirming}
 use Rattle.provider.specs.declared.Answer.{Answer}
 use Rattle.provider.specs.declared.Answer.the-variants.{Taken, ClockWentBack}
 use Rattle.provider.specs.declared.Beacon.{Beacon}
@@ -96,6 +97,9 @@ pub record Effect : Type 0 where
 -- an answer that hands out nothing
 abbrev pub given : Device → Answer → Outcome
 given d a = record { next = d; reply = plain a }
+
+abbrev pub confirmed : Device → Confirm → Outcome
+confirmed d c = record { next = d; reply = confirming c }
 
 abbrev pub replies : Device → Reply → List ℕ → Effect
 replies d r out = record { gives = record { next = d; reply = r }; leaves = out }

@@ -4,6 +4,7 @@ use crate::Answer;
 use crate::Confirm;
 use crate::Device;
 use crate::Outcome;
+use crate::Reply;
 use account_keys::AccountKey;
 use basics::Link;
 use basics::Moment;
@@ -16,7 +17,8 @@ ghost use lib.ListN.{length};
 ghost use Rattle.account_keys.specs.Keys.{Kept, held, kept, stored};
 ghost use Rattle.sessions.specs.Sessions.{linkCount};
 ghost use Rattle.provider.specs.Demands.{Valid};
-ghost use Rattle.provider.specs.Device.{withKeys};
+ghost use Rattle.provider.specs.Answers as reply;
+ghost use Rattle.provider.specs.Device.{withKeys, confirmed};
 ghost use Rattle.provider.specs.Pairing as rule;
 
 impl Device {
@@ -185,4 +187,138 @@ impl Device {
         self.keys = keys.store(key);
         self
     }
+
+    pub fn passkey_write(
+        self,
+        link: Link,
+        clock: Moment,
+        block: &[u8],
+        salt: [u8; 12],
+        out: &mut [u8],
+    ) -> Outcome
+        requires { ⌜ Valid self ⌝ }
+        ensures { λ r. ⌜ r ≡ rule.passkeyWrite self (link .0) (clock .0) (now (block .entry)) salt (now (out .entry)) .gives ⌝ }
+        ensures { λ r. ⌜ now (out .exit) ≡ rule.passkeyWrite self (link .0) (clock .0) (now (block .entry)) salt (now (out .entry)) .leaves ⌝ }
+    {
+        if 7 < link.0 {
+            return self.answers(Answer::UnknownLink);
+        }
+        if out.len() < 16 {
+            return self.answers(Answer::OutputTooShort);
+        }
+        let stored = self.clock;
+        if clock.0 < stored.0 {
+            return self.went_back();
+        }
+        self.clock_step(clock)
+            .prove_passkey(link, clock, block, salt, out)
+    }
+
+    fn prove_passkey(
+        self,
+        link: Link,
+        clock: Moment,
+        block: &[u8],
+        salt: [u8; 12],
+        out: &mut [u8],
+    ) -> Outcome
+        requires { ⌜ (link .0 < linkCount) × (16 ≤ length (now out)) ⌝ }
+        ensures { λ r. ⌜ r ≡ rule.inStage Stage.Confirming (rule.proves (clock .0) (now (block .entry)) salt (now (out .entry))) self (link .0) (now (out .entry)) .gives ⌝ }
+        ensures { λ r. ⌜ now (out .exit) ≡ rule.inStage Stage.Confirming (rule.proves (clock .0) (now (block .entry)) salt (now (out .entry))) self (link .0) (now (out .entry)) .leaves ⌝ }
+    {
+        let session = self.sessions.at(link);
+        if session.is_in(Stage::Idle) {
+            return self.answers(Answer::LinkIdle);
+        }
+        if !session.is_in(Stage::Confirming) {
+            return self.drop_at(link).answers(Answer::WrongStage);
+        }
+        if block.len() != 16 {
+            return self.drop_at(link).answers(Answer::BadBlock);
+        }
+        let key = session.key;
+        let plain = aes128::decrypt(key, basics::sixteen(block, 0));
+        if plain[0] != 0x02 {
+            return self.drop_at(link).answers(Answer::BadBlock);
+        }
+        basics::put(out, 0, passkey_response(session, salt));
+        self.compare_passkey(link, clock, session, plain)
+    }
+
+    // Yes and the stage proved, or no and K dropped.
+    fn compare_passkey(
+        self,
+        link: Link,
+        clock: Moment,
+        session: Session,
+        plain: [u8; 16],
+    ) -> Outcome
+        requires { ⌜ link .0 < linkCount ⌝ }
+        ensures { λ r. ⌜ r ≡ rule.acted self (link .0) (rule.compared (clock .0) [] [] session plain) .gives ⌝ }
+    {
+        if passkey_in(plain) == session.passkey {
+            return self.with_session(link, session.moved(Stage::Proved, clock))
+                .confirms(Confirm::Yes);
+        }
+        self.drop_at(link).confirms(Confirm::No)
+    }
+
+    fn confirms(self, confirm: Confirm) -> Outcome
+        ensures { λ r. ⌜ r ≡ confirmed self confirm ⌝ }
+    {
+        let mut outcome = self.answers(Answer::Taken);
+        outcome.reply = confirming(confirm);
+        outcome
+    }
+}
+
+fn confirming(confirm: Confirm) -> Reply
+    ensures { λ r. ⌜ r ≡ reply.confirming confirm ⌝ }
+{
+    let bond = crate::plain(Answer::Taken).bond;
+    Reply {
+        answer: Answer::Taken,
+        tried: 0,
+        bond: bond,
+        confirm: confirm,
+    }
+}
+
+// Our passkey and the event's salt, under K.
+fn passkey_response(session: Session, salt: [u8; 12]) -> [u8; 16]
+    ensures { λ r. ⌜ r ≡ rule.passkeyResponse session salt ⌝ }
+{
+    let p = session.passkey;
+    let key = session.key;
+    let block = [
+        0x03,
+        ((p >> 16) % 256) as u8,
+        ((p >> 8) % 256) as u8,
+        ((p >> 0) % 256) as u8,
+        salt[0],
+        salt[1],
+        salt[2],
+        salt[3],
+        salt[4],
+        salt[5],
+        salt[6],
+        salt[7],
+        salt[8],
+        salt[9],
+        salt[10],
+        salt[11],
+    ];
+    aes128::encrypt(key, block)
+}
+
+fn passkey_in(plain: [u8; 16]) -> u32
+    ensures { λ r. ⌜ r ≡ rule.passkeyIn plain ⌝ }
+{
+    wide(plain[1]) * 0x10000 + wide(plain[2]) * 0x100 + wide(plain[3])
+}
+
+fn wide(x: u8) -> u32
+    ensures { λ r. ⌜ (r ≡ x) × (r < 256) ⌝ }
+{
+    x as u32
 }
