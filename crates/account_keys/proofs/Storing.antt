@@ -3,14 +3,13 @@
 use mathlib.Core.Bool.{Bool, true, false, not}
 use mathlib.Core.List.{List, [], _∷_, _++_}
 use mathlib.Core.Path.{_≡_, refl, _∙_}
-use Prim.Native.Nat.{ℕ, _≤_, _<_}
+use Prim.Native.Nat.{_≤_, _<_}
 use native.Mathlib.Omega.{arith}
 use lib.Dec.{leb, eqb}
 use lib.ListN.{length, drop, getD, length-append, length-drop}
 use borrow.Author.Tests.{eq-eqb, leb-false}
 use Rattle.laws.proofs.All.{all-append, all-drop}
-use Rattle.laws.proofs.Choice.{and-right}
-use Rattle.laws.specs.Choice.{_or_}
+use Rattle.laws.proofs.Choice.{and-right, or-false}
 use Rattle.laws.specs.Lists.{All}
 use Rattle.account_keys.specs.Keys.{Valid, Sized, limit, held, kept, member, owned, stored}
 use Rattle.account_keys.specs.Promises.{StoresValid}
@@ -25,13 +24,6 @@ one-more : (l : List AccountKey) (k : AccountKey) → length l < limit → All S
 one-more l k h p o s f m =
     kept-valid (l ++ (k ∷ [])) (simp length-append (omega arith)) (all-append Sized l (k ∷ []) p (s, tt))
     (owned-snoc l k ∙ rw (o, eq-eqb (getD (k .bytes) 0 0) 0x04 f, m))
-
-or-false : (a b : Bool) → (a or b) ≡ false → b ≡ false
-or-false true b e = absurd (differ e)
-  where
-    differ : true ≡ false → ⊥
-    differ e = let z : _≡_ {A = ℕ} 0 1 = cc in omega arith
-or-false false b e = e
 
 member-drop : (l : List AccountKey) (k : AccountKey) → member l k ≡ false → member (drop 1 l) k ≡ false
 member-drop [] k e = e

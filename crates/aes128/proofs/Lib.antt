@@ -4,4 +4,5 @@ pub mod Laws
 pub mod Matrix
 pub mod SBox
 pub mod Schedule
+pub mod Sizes
 pub mod State

@@ -1,9 +1,9 @@
 -- What holds of each element of a list.
 -- Assumes nothing.
-use mathlib.Core.List.{List, [], _∷_, _++_}
+use mathlib.Core.List.{List, [], _∷_, _++_, map}
 use Prim.Native.Nat.{ℕ, zero, suc, _<_}
 use native.Mathlib.Nat.{le-of-suc-le-suc, not-suc-le-zero}
-use lib.ListN.{length, take, drop, getD}
+use lib.ListN.{length, take, drop, getD, set, replicate}
 use Rattle.laws.specs.Lists.{All}
 
 module _ {ℓ} {A : Type ℓ} (P : A → Type 0) where
@@ -16,6 +16,19 @@ module _ {ℓ} {A : Type ℓ} (P : A → Type 0) where
   all-take zero l p = tt
   all-take (suc n) [] p = tt
   all-take (suc n) (x ∷ xs) p = (p .0, all-take n xs (p .1))
+
+  pub all-set : (l : List A) (i : ℕ) (a : A) → All P l → P a → All P (set l i a)
+  all-set [] i a p q = tt
+  all-set (x ∷ xs) zero a p q = (q, p .1)
+  all-set (x ∷ xs) (suc i) a p q = (p .0, all-set xs i a (p .1) q)
+
+  pub all-mapped : (f : A → A) → ((a : A) → P a → P (f a)) → (l : List A) → All P l → All P (map f l)
+  all-mapped f k [] p = tt
+  all-mapped f k (x ∷ xs) p = (k x (p .0), all-mapped f k xs (p .1))
+
+  pub all-replicate : (n : ℕ) (a : A) → P a → All P (replicate n a)
+  all-replicate zero a p = tt
+  all-replicate (suc n) a p = (p, all-replicate n a p)
 
   pub all-drop : (n : ℕ) (l : List A) → All P l → All P (drop n l)
   all-drop zero l p = p

@@ -3,7 +3,7 @@
 use mathlib.Core.Bool.{Bool, true, false}
 use mathlib.Core.Path.{_≡_, refl, subst, sym}
 use lib.Dec.{T}
-use Rattle.laws.specs.Choice.{_and_}
+use Rattle.laws.specs.Choice.{if_then_else_, _and_, _or_}
 
 pub true-is : {b : Bool} → b ≡ true → T b
 true-is e = subst T (sym e) tt
@@ -11,6 +11,16 @@ true-is e = subst T (sym e) tt
 pub is-true : (b : Bool) → T b → b ≡ true
 is-true true t = refl
 is-true false t = absurd t
+
+-- what holds of both branches holds of the choice; the second is only taken if the test fails
+pub if-holds {ℓ} : {A : Type ℓ} (P : A → Type 0) (b : Bool) {x y : A} → P x → (b ≡ false → P y) → P
+    (if b then x else y)
+if-holds P true p q = p
+if-holds P false p q = q refl
+
+pub or-false : (a b : Bool) → (a or b) ≡ false → b ≡ false
+or-false true b e = absurd (true-is (sym e))
+or-false false b e = e
 
 pub and-left : (a b : Bool) → (a and b) ≡ true → a ≡ true
 and-left true b e = refl

@@ -7,3 +7,4 @@ pub mod Event
 pub mod Kinds
 pub mod Table
 pub mod Demands
+pub mod Samples

@@ -1,0 +1,98 @@
+-- A valid device stays valid when one of its parts is changed to a valid one.
+-- Assumes nothing.
+use mathlib.Core.Bool.{true}
+use mathlib.Core.List.{List, [], _∷_}
+use mathlib.Core.Path.{_∙_, _≡_, refl, ap}
+use Prim.Native.Nat.{ℕ}
+use native.Mathlib.Omega.{arith}
+use lib.Dec.{ltb}
+use lib.ListN.{length, getD, length-set}
+use borrow.Author.Tests.{ltb-true}
+use Rattle.laws.proofs.All.{all-set, all-replicate}
+use Rattle.laws.specs.Lists.{All}
+use Rattle.account_keys.specs.Keys.{Sized, owned, kept}
+use Rattle.account_keys.specs.declared.AccountKey.{AccountKey}
+use Rattle.account_keys.specs.declared.AccountKeys.{AccountKeys}
+use Rattle.account_keys.specs.declared.Reading.{Reading}
+use Rattle.provider.specs.Control.{started}
+use Rattle.provider.specs.Demands.{Canonical, Valid}
+use Rattle.provider.specs.Device.{withSessions, dropAt, withLink, withKeys, withGuard, withBeacon, dropAll, clockStep}
+use Rattle.provider.specs.Pairing.{withStored}
+use Rattle.provider.specs.declared.Beacon.{Beacon}
+use Rattle.provider.specs.declared.Device.{Device}
+use Rattle.provider.specs.declared.Start.{Start}
+use Rattle.request_guard.specs.declared.Guard.{Guard}
+use Rattle.sessions.specs.Sessions.{allIdle, expired, linkCount, idle, stageNumber}
+use Rattle.sessions.specs.declared.Session.{Session}
+use Rattle.sessions.specs.declared.Sessions.{Sessions}
+use Rattle.request_guard.specs.Guard as guard
+use Rattle.account_keys.specs.Keys as keys
+use Rattle.account_keys.proofs.Laws.{kept-valid}
+use Rattle.account_keys.proofs.Storing.{stores-valid}
+use Rattle.request_guard.proofs.Laws.{fresh-valid, clock-valid}
+use Rattle.sessions.proofs.Laws.{expired-long, expired-all}
+
+-- ---- sessions and keys
+
+-- a link in a stage
+pub in-a-stage : (s : Session) → ltb 0 (stageNumber (s .stage)) ≡ true → Canonical s
+in-a-stage s h e =
+    let z : stageNumber (s .stage) ≡ 0 = ap stageNumber e in
+    absurd (omega (arith, ltb-true 0 (stageNumber (s .stage)) h))
+
+pub idle-holds-nothing : Canonical idle
+idle-holds-nothing e = refl
+
+pub no-keys-valid : keys.Valid (kept [])
+unfolding owned
+no-keys-valid = kept-valid [] (omega arith) tt refl
+
+-- sixteen bytes, of which the first is 0x04
+abbrev pub Storable : AccountKey → Type 0
+Storable k = Sized k × (getD (k .bytes) 0 0 ≡ 0x04)
+
+pub stored-valid : (ks : AccountKeys) (l : List AccountKey) → keys.Valid ks → All Storable l → keys.Valid
+    (withStored ks l)
+stored-valid ks [] v p = v
+stored-valid ks (k ∷ more) v p = stores-valid ks k v (p .0 .0) (p .0 .1)
+
+-- ---- devices
+
+module _ {d : Device} (v : Valid d) where
+  pub keys-valid : (ks : AccountKeys) → keys.Valid ks → Valid (withKeys d ks)
+  keys-valid ks p = record { keys = p; links = v .links; sessions = v .sessions; guard = v .guard }
+
+  pub guard-valid : (g : Guard) → guard.Valid g → Valid (withGuard d g)
+  guard-valid g p = record { keys = v .keys; links = v .links; sessions = v .sessions; guard = p }
+
+  pub beacon-valid : (b : Beacon) → Valid (withBeacon d b)
+  beacon-valid b = record { keys = v .keys; links = v .links; sessions = v .sessions; guard = v .guard }
+
+  pub sessions-valid : (ss : Sessions) → length (ss .links) ≡ linkCount → All Canonical (ss .links) → Valid
+      (withSessions d ss)
+  sessions-valid ss n p = record { keys = v .keys; links = n; sessions = p; guard = v .guard }
+
+  pub link-valid : (l : ℕ) (s : Session) → Canonical s → Valid (withLink d l s)
+  link-valid l s p =
+      sessions-valid _ (rw length-set (v .links)) (all-set Canonical (d .sessions .links) l s (v .sessions) p)
+
+  pub dropAt-valid : (l : ℕ) → Valid (dropAt d l)
+  dropAt-valid l = link-valid l idle idle-holds-nothing
+
+  pub dropAll-valid : Valid (dropAll d)
+  dropAll-valid = sessions-valid allIdle refl (all-replicate Canonical linkCount idle idle-holds-nothing)
+
+  pub clockStep-valid : (t : ℕ) → Valid (clockStep t d)
+  unfolding clockStep
+  clockStep-valid t =
+      let links : length (expired t (d .sessions) .links) ≡ linkCount = expired-long t (d .sessions)
+      ∙ v .links in
+      let held : All Canonical (expired t (d .sessions) .links) = expired-all t
+      (d .sessions) Canonical idle-holds-nothing (v .sessions) in
+      record { keys = v .keys; links = links; sessions = held; guard = clock-valid (d .guard) (v .guard) t }
+
+-- power-on with a valid list
+pub started-valid : (r : Reading) (s : Start) → keys.Valid (r .keys) → Valid (started r s)
+started-valid r s p =
+    let held : All Canonical (allIdle .links) = all-replicate Canonical linkCount idle idle-holds-nothing in
+    record { keys = p; links = refl; sessions = held; guard = fresh-valid }
