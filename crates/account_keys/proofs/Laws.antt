@@ -6,11 +6,11 @@ use mathlib.Core.Path.{_≡_, ap}
 use Prim.Native.Nat.{ℕ, _+_, _-_, _≤_, _<_}
 use native.Mathlib.Nat.{le-refl}
 use native.Mathlib.Omega.{arith}
-use lib.ListN.{length, take, drop, set, getD, replicate, length-drop}
+use lib.ListN.{length, take, drop, set, getD, replicate}
 use lib.Seq.{take-take, paste}
 use borrow.Author.Tests.{le-leb, lt-leb}
 use Rattle.laws.proofs.Lists.{drop-held, drop-taken}
-use Rattle.laws.proofs.Padded.{take-padded, all-places, place-more, count-more, place-less, count-less}
+use Rattle.laws.proofs.Padded.{take-padded, all-places, place-more, count-more, place-less, count-less, room-less}
 use Rattle.laws.specs.Choice.{_or_}
 use Rattle.laws.specs.Lists.{padded, All}
 use Rattle.account_keys.specs.Keys.{Valid, Sized, owned, Kept, limit, zeroKey, held, kept, member, stored}
@@ -90,8 +90,9 @@ module _ (ks : AccountKeys) (k : AccountKey) (v : Kept ks) where
   -- a full list without its oldest key has room
   pub rest-kept : ks .count ≤ limit → Kept (kept (drop 1 (held ks))) × (length (drop 1 (held ks)) < limit)
   rest-kept h =
-      let size : length (drop 1 (held ks)) ≤ limit - 1 = simp (length-drop, ← count-held ks v) (omega arith) in
-      (kept-kept (drop 1 (held ks)) (omega arith), omega arith)
+      let size : length (drop 1 (held ks)) < limit = room-less limit zeroKey (ks .keys) (ks .count) h
+      (places ks v) (omega arith) in
+      (kept-kept (drop 1 (held ks)) (omega arith), size)
 
 pub all-held : (ks : AccountKeys) → take (ks .count) (held ks) ≡ held ks
 all-held ks = take-take (ks .count) (ks .count) (ks .keys) (le-refl (ks .count))

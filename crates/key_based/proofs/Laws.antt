@@ -15,7 +15,9 @@ use Rattle.laws.proofs.Choice.{true-is}
 use Rattle.laws.proofs.Filled.{listed}
 use Rattle.laws.proofs.Lists.{drop-held, drop-taken}
 use Rattle.laws.specs.Tabulate.{tabulate}
+use Rattle.account_keys.specs.Keys.{Kept, held}
 use Rattle.account_keys.specs.declared.AccountKey.{AccountKey}
+use Rattle.account_keys.specs.declared.AccountKeys.{AccountKeys}
 use Rattle.aes128.specs.Cipher.{cipher, invCipher}
 use Rattle.basics.specs.Bytes.{same, sixteenAt}
 use Rattle.basics.specs.declared.Address.{Address}
@@ -27,6 +29,7 @@ use Rattle.key_based.specs.declared.Search.{Search}
 use Rattle.request_guard.specs.declared.Salt.{Salt}
 use Rattle.sha256.specs.Hash.{sha256}
 use Rattle.key_based.specs.Request as spec
+use Rattle.account_keys.proofs.Laws.{room}
 
 -- what a read past the end of an array of keys gives
 abbrev pub nowhere : AccountKey
@@ -112,37 +115,44 @@ module _ (ble public : Address) (r : List ℕ) where
         go true p = absurd (true-is (sym e ∙ ap (λ (f : Found). handedOver r f .found) (first-fits [] p)))
         go false p = (passed p, sym (first-passed ks p))
 
-  -- the account keys, the first n places of l: i of them are passed, and none of these fits
-  module _ (l : List AccountKey) (n i : ℕ) where
-    abbrev pub Passed : Type 0
-    Passed = tried ble public r i (blocks (drop i (take n l))) ≡ tried ble public r 0 (blocks (take n l))
+  -- i of the account keys are passed: the search through the rest is the whole search
+  abbrev pub Passed : AccountKeys → ℕ → Type 0
+  Passed ks i = tried ble public r i (blocks (drop i (held ks))) ≡ tried ble public r 0 (blocks (held ks))
 
-    next-key : i < n → n ≤ length l → tried ble public r i (blocks (drop i (take n l)))
-        ≡ tried ble public r i (getD l i nowhere .bytes ∷ blocks (drop (i + 1) (take n l)))
-    next-key h j = rw (drop-held l n i nowhere h j)
+  module _ (ks : AccountKeys) (v : Kept ks) (i : ℕ) (p : Passed ks i) where
+    -- the next one
+    abbrev next : List ℕ
+    next = getD (ks .keys) i nowhere .bytes
 
-    -- the next one fits
-    pub key-fits : {a : Search} → i < n → n ≤ length l → Passed
-        → a ≡ handedOver r (tried ble public r i (getD l i nowhere .bytes ∷ [])) → a .found ≡ true
-        → a ≡ handedOver r (tried ble public r 0 (blocks (take n l)))
-    key-fits h j p e f =
-        e ∙ ap (handedOver r) (stops i (getD l i nowhere .bytes) (blocks (drop (i + 1) (take n l)))
-        (sym (ap (λ (s : Search). s .found) e) ∙ f) ∙ sym (next-key h j) ∙ p)
+    next-key : i < ks .count → tried ble public r i (next ∷ blocks (drop (i + 1) (held ks)))
+        ≡ tried ble public r 0
+        (blocks (held ks))
+    next-key h =
+        let inside : ks .count ≤ length (ks .keys) = omega (arith, v .few, room ks v) in
+        (rw (drop-held (ks .keys) (ks .count) i nowhere h inside)) ∙ p
 
-    -- the next one does not
-    pub key-passed : {a : Search} → i < n → n ≤ length l → Passed
-        → a ≡ handedOver r (tried ble public r i (getD l i nowhere .bytes ∷ [])) → a .found ≡ false
-        → (a ≡ noneFits (i + 1)) × (tried ble public r (i + 1) (blocks (drop (i + 1) (take n l)))
-        ≡ tried ble public r 0 (blocks (take n l)))
-    key-passed h j p e f =
-        let on = goes-on i (getD l i nowhere .bytes) (blocks (drop (i + 1) (take n l)))
+    -- it fits
+    pub key-fits : {a : Search} → i < ks .count
+        → a ≡ handedOver r (tried ble public r i (getD (ks .keys) i nowhere .bytes ∷ [])) → a .found ≡ true
+        → a ≡ handedOver r (tried ble public r 0 (blocks (held ks)))
+    key-fits h e f =
+        e ∙ ap (handedOver r) (stops i next (blocks (drop (i + 1) (held ks)))
+        (sym (ap (λ (s : Search). s .found) e) ∙ f) ∙ next-key h)
+
+    -- it does not
+    pub key-passed : {a : Search} → i < ks .count
+        → a ≡ handedOver r (tried ble public r i (getD (ks .keys) i nowhere .bytes ∷ [])) → a .found ≡ false
+        → (a ≡ noneFits (i + 1)) × Passed ks (i + 1)
+    key-passed h e f =
+        let on = goes-on i next (blocks (drop (i + 1) (held ks)))
         (sym (ap (λ (s : Search). s .found) e) ∙ f) in
-        (e ∙ on .0, on .1 ∙ sym (next-key h j) ∙ p)
+        (e ∙ on .0, on .1 ∙ next-key h)
 
-    -- there is no next one
-    pub all-passed : {a : Search} → n ≤ i → Passed → a ≡ noneFits i
-        → a ≡ handedOver r (tried ble public r 0 (blocks (take n l)))
-    all-passed h p e = e ∙ ap (handedOver r) (sym (none-left i) ∙ rw (drop-taken l n i h) at p)
+    -- there is none
+    pub all-passed : {a : Search} → ks .count ≤ i → a ≡ noneFits i
+        → a ≡ handedOver r (tried ble public r 0 (blocks (held ks)))
+    all-passed h e =
+        e ∙ ap (handedOver r) (sym (none-left i) ∙ rw (drop-taken (ks .keys) (ks .count) i h) at p)
 
 -- ---- the candidates of a request
 

@@ -53,6 +53,10 @@ module _ {ℓ} {A : Type ℓ} (n : ℕ) (z : A) where
         let at : 0 + (n - 1) ≡ n - 1 = omega arith in
         rw (full, take-all (n - 1) (drop 1 l) (omega arith), long, at, drop-replicate (n - 1) n z)
 
+    -- without the first there is room
+    pub room-less : 0 < n → length (drop 1 (take c l)) < n
+    room-less h = simp length-drop (omega (arith, in-use))
+
 -- a turn of a loop that copies l into d from its second place on
 pub shift-more {ℓ} : {A : Type ℓ} (d l : List A) (i : ℕ) (z : A) {r : List A} → r ≡ paste d 0 (drop 1 l) i
     → i < length d

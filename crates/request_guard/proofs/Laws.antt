@@ -11,7 +11,7 @@ use lib.Seq.{paste}
 use borrow.Author.Tests.{eq-eqb, ne-eqb, le-leb, lt-leb, leb-false, eqb-false}
 use Rattle.laws.proofs.Choice.{if-holds}
 use Rattle.laws.proofs.Lists.{drop-held, drop-taken}
-use Rattle.laws.proofs.Padded.{all-places, place-more, count-more, place-less, count-less, take-padded}
+use Rattle.laws.proofs.Padded.{room-less, all-places, place-more, count-more, place-less, count-less, take-padded}
 use Rattle.laws.specs.Choice.{_or_}
 use Rattle.laws.specs.Lists.{padded}
 use Rattle.basics.specs.Bytes.{same}
@@ -130,9 +130,9 @@ module _ (ss : SpentSalts) (v : Kept ss) where
   -- a full list without its oldest salt has room
   pub rest-kept : Kept (salts (drop 1 (remembered ss))) × (length (drop 1 (remembered ss)) < saltLimit)
   rest-kept =
-      let size : length (drop 1 (remembered ss)) ≤ saltLimit - 1 = simp (length-drop, ← count-remembered)
-      (omega (arith, v .few)) in
-      (kept-salts (drop 1 (remembered ss)) (omega arith), omega arith)
+      let size : length (drop 1 (remembered ss)) < saltLimit = room-less saltLimit noSalt (ss .salts)
+      (ss .count) (v .few) places (omega arith) in
+      (kept-salts (drop 1 (remembered ss)) (omega arith), size)
 
 -- the stores that put one salt more into a kept value
 pub pushed : (ss : SpentSalts) (s : Salt) → Kept ss → ss .count < saltLimit

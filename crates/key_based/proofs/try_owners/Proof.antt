@@ -2,18 +2,15 @@
 use mathlib.Core.Path.{_≡_, refl}
 use Prim.Native.Nat.{_≤_, _-_}
 use native.Mathlib.Omega.{arith}
-use lib.ListN.{length}
 use borrow.Author.Needs.{needs}
-use Rattle.account_keys.specs.Keys.{limit}
 use Rattle.key_based.specs.Search.{noneFits}
 use Rattle.key_based.proofs.try_owners.Tie as tie
-use Rattle.account_keys.proofs.Laws.{room}
 use Rattle.key_based.proofs.Laws.{Passed, key-fits, key-passed, all-passed}
 use Rattle.key_based.proofs.try_owners.Statement.{statement}
 
 abbrev Inv-loop : tie.InvT-loop
 Inv-loop ble public block keys n last₀ i₀ last i =
-    (i ≤ n) × (n ≡ keys .count) × (last ≡ noneFits i) × Passed ble public block (keys .keys) (keys .count) i
+    (i ≤ n) × (n ≡ keys .count) × (last ≡ noneFits i) × Passed ble public block keys i
 
 abbrev μ-loop : tie.MeasureT-loop
 μ-loop ble public block keys n last₀ i₀ last i = n - i
@@ -29,39 +26,35 @@ try-key-requires c κs = omega (arith, c .before .before .before .before .before
 
 loop-again : tie.Need-loop-again Inv-loop μ-loop
 loop-again c =
-    let h : length (c .before .before .before .before .before .before .before .args .t3 .keys) ≡ limit = room
-    (c .before .before .before .before .before .before .before .args .t3)
-    (c .before .before .before .before .before .before .before .pre) in
     let p = key-passed (c .before .before .before .before .before .before .before .args .ble)
     (c .before .before .before .before .before .before .before .args .public)
     (c .before .before .before .before .before .before .before .args .block)
-    (c .before .before .before .before .before .before .before .args .t3 .keys)
-    (c .before .before .before .before .before .before .before .args .t3 .count)
-    (c .before .before .before .before .before .loop .i) (c .before .before .before .before .loop-test .taken)
-    (omega (arith, c .before .before .before .before .before .before .before .pre .few))
-    (c .before .before .before .before .before .loop .inv .3) (c .before .try-key .ensures) (c .if1 .left) in
+    (c .before .before .before .before .before .before .before .args .t3)
+    (c .before .before .before .before .before .before .before .pre)
+    (c .before .before .before .before .before .loop .i)
+    (c .before .before .before .before .before .loop .inv .3)
+    (c .before .before .before .before .loop-test .taken)
+    (c .before .try-key .ensures) (c .if1 .left) in
     (search needs, refl, p .0, p .1)
 
 returns : tie.Need-returns Inv-loop μ-loop
 returns c =
     all-passed (c .before .before .before .args .ble) (c .before .before .before .args .public)
-    (c .before .before .before .args .block) (c .before .before .before .args .t3 .keys)
-    (c .before .before .before .args .t3 .count) (c .before .loop .i) (c .loop-test .left)
-    (c .before .loop .inv .3) (c .before .loop .inv .2)
+    (c .before .before .before .args .block) (c .before .before .before .args .t3)
+    (c .before .before .before .pre) (c .before .loop .i) (c .before .loop .inv .3)
+    (c .loop-test .left) (c .before .loop .inv .2)
 
 returns-2 : tie.Need-returns-2 Inv-loop μ-loop
 returns-2 c =
-    let h : length (c .before .before .before .before .before .before .before .args .t3 .keys) ≡ limit = room
-    (c .before .before .before .before .before .before .before .args .t3)
-    (c .before .before .before .before .before .before .before .pre) in
     key-fits (c .before .before .before .before .before .before .before .args .ble)
     (c .before .before .before .before .before .before .before .args .public)
     (c .before .before .before .before .before .before .before .args .block)
-    (c .before .before .before .before .before .before .before .args .t3 .keys)
-    (c .before .before .before .before .before .before .before .args .t3 .count)
-    (c .before .before .before .before .before .loop .i) (c .before .before .before .before .loop-test .taken)
-    (omega (arith, c .before .before .before .before .before .before .before .pre .few))
-    (c .before .before .before .before .before .loop .inv .3) (c .before .try-key .ensures) (c .if1 .taken)
+    (c .before .before .before .before .before .before .before .args .t3)
+    (c .before .before .before .before .before .before .before .pre)
+    (c .before .before .before .before .before .loop .i)
+    (c .before .before .before .before .before .loop .inv .3)
+    (c .before .before .before .before .loop-test .taken)
+    (c .before .try-key .ensures) (c .if1 .taken)
 
 pub try-owners-spec : {M : Type 1} → statement M
 try-owners-spec =
