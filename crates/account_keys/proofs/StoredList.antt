@@ -7,7 +7,7 @@ use Prim.Native.Nat.{ℕ, zero, suc, _+_, _-_, _*_, _/_, _%_, _≤_, _<_}
 use native.Mathlib.Nat.{add-zero, add-suc, mod-eq-of-lt}
 use native.Mathlib.Numerals.{add-one}
 use native.Mathlib.Omega.{arith}
-use lib.Dec.{leb, eqb}
+use lib.Dec.{eqb}
 use lib.ListN.{length, take, drop, set, getD, length-append, length-set}
 use lib.Seq.{take-length, drop-length, paste, take-suc, getD-take, drop-drop, length-take-le}
 use borrow.Author.Tests.{le-leb, lt-leb, eq-eqb, ne-eqb}
@@ -28,6 +28,7 @@ use Rattle.basics.specs.declared.Output.the-variants.{Written, TooShort}
 use Rattle.basics.specs.declared.Report.{Report}
 use Rattle.account_keys.proofs.Laws.{nowhere, held-kept}
 use Rattle.basics.proofs.Laws.{same-comm}
+use Rattle.basics.proofs.Lent.{left-alone, all-written}
 
 -- ---- writing
 
@@ -252,10 +253,7 @@ module _ (l : List AccountKey) (p : All Sized l) (n : ℕ) (e : n ≡ length l) 
   pub no-room : length o < 2 + 16 * n + 2
       → (_≡_ {A = Report} (record { output = TooShort; length = 0 }) (reportOf (writing l) o)) ×
       (o ≡ placed (writing l) o)
-  no-room h =
-      let t : leb (length (writing l)) (length o) ≡ false = lt-leb (length (writing l)) (length o)
-      (omega (arith, long)) in
-      (rw t, rw t)
+  no-room h = left-alone (writing l) o (omega (arith, long)) refl
 
   -- the header stored and the keys written after it
   pub has-room : n < 256 → 2 + 16 * n + 2 ≤ length o → (x q : List ℕ)
@@ -264,21 +262,17 @@ module _ (l : List AccountKey) (p : All Sized l) (n : ℕ) (e : n ≡ length l) 
       → (_≡_ {A = Report} (record { output = Written; length = 2 + 16 * n + 2 }) (reportOf (writing l) o))
       × (putMid 4 (length x - 4) x q ≡ placed (writing l) o)
   has-room few h x q f g =
-      let t : leb (length (writing l)) (length o) ≡ true = le-leb (length (writing l)) (length o)
-      (omega (arith, long)) in
       let size : length (keyBytes l) ≡ 16 * n = bytes-long l p ∙ ap (λ (m : ℕ). 16 * m) (sym e) in
       let front : x ≡ (2 + 16 * n) / 256 % 256 ∷ (2 + 16 * n) / 1 % 256 ∷ 1 ∷ n % 256 ∷ drop 4 o =
       f ∙ front4 o ((2 + 16 * n) / 256 % 256) ((2 + 16 * n) / 1 % 256) 1 (n % 256) (omega arith)
       in
       let text : (2 + 16 * n) / 256 % 256 ∷ (2 + 16 * n) / 1 % 256 ∷ 1 ∷ n % 256 ∷ keyBytes l
       ≡ writing l = text-is few in
-      let end : 4 + 16 * n ≡ length (writing l) = omega (arith, long) in (
-        rw (t, long),
-        rw t
-            (lent-after-four o x q (keyBytes l) ((2 + 16 * n) / 256 % 256) ((2 + 16 * n) / 1 % 256) 1 (n % 256)
-            (16 * n) front size g
-            ∙ ap₂ (λ (w : List ℕ) (m : ℕ). w ++ drop m o) text end),
-      )
+      let end : 4 + 16 * n ≡ length (writing l) = omega (arith, long) in
+      all-written (writing l) o (omega (arith, long)) refl (sym long)
+      (lent-after-four o x q (keyBytes l) ((2 + 16 * n) / 256 % 256) ((2 + 16 * n) / 1 % 256) 1 (n % 256)
+      (16 * n) front size g
+      ∙ ap₂ (λ (w : List ℕ) (m : ℕ). w ++ drop m o) text end)
 
 -- stores and a lent part keep the output's length
 pub lent-long : (o x p : List ℕ) (a b c d : ℕ) → x ≡ set (set (set (set o 0 a) 1 b) 2 c) 3 d

@@ -1,4 +1,4 @@
--- An account key write keeps the list valid.
+-- An account key write keeps the list valid, and in its room.
 -- Assumes nothing.
 use mathlib.Core.Bool.{Bool, true, false, not}
 use mathlib.Core.List.{List, [], _∷_, _++_}
@@ -11,11 +11,12 @@ use borrow.Author.Tests.{eq-eqb, leb-false}
 use Rattle.laws.proofs.All.{all-append, all-drop}
 use Rattle.laws.proofs.Choice.{and-right, or-false}
 use Rattle.laws.specs.Lists.{All}
-use Rattle.account_keys.specs.Keys.{Valid, Sized, limit, held, kept, member, owned, stored}
+use Rattle.account_keys.specs.Keys.{Kept, Valid, Sized, limit, held, kept, member, owned, stored}
 use Rattle.account_keys.specs.Promises.{StoresValid}
 use Rattle.account_keys.specs.declared.AccountKey.{AccountKey}
+use Rattle.account_keys.specs.declared.AccountKeys.{AccountKeys}
 use Rattle.basics.specs.Bytes.{same}
-use Rattle.account_keys.proofs.Laws.{kept-valid, count-held}
+use Rattle.account_keys.proofs.Laws.{kept-kept, kept-valid, count-held}
 use Rattle.account_keys.proofs.StoredList.{owned-snoc}
 
 -- one key more, that is not held
@@ -52,3 +53,18 @@ stores-valid ks k v s f = go (member l k) (leb limit (length l)) refl refl
         (one-more (drop 1 l) k room (all-drop Sized 1 l (v .sized)) (owned-drop l (v .known)) s f
         (member-drop l k p))
     go false false p q = rw (p, q) (one-more l k (leb-false limit (length l) q) (v .sized) (v .known) s f p)
+
+-- a write of any key keeps the room
+pub stores-kept : (ks : AccountKeys) (k : AccountKey) → Kept ks → Kept (kept (stored (held ks) k))
+unfolding stored
+stores-kept ks k v =
+    kept-kept (stored (held ks) k) (go (member (held ks) k) (leb limit (length (held ks))) refl refl)
+  where
+    few : length (held ks) ≤ limit
+    few = omega (arith, v .few, count-held ks v)
+
+    go : (m t : Bool) → member (held ks) k ≡ m → leb limit (length (held ks)) ≡ t → length
+        (stored (held ks) k) ≤ limit
+    go true t p q = rw p few
+    go false true p q = rw (p, q) (simp (length-append, length-drop) (omega (arith, few)))
+    go false false p q = rw (p, q) (simp length-append (omega (arith, leb-false limit (length (held ks)) q)))

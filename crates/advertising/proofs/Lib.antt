@@ -1,4 +1,3 @@
 pub mod Laws
 pub mod Promises
-pub mod Samples
 pub mod Texts

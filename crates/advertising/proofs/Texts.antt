@@ -22,7 +22,7 @@ use Rattle.basics.specs.Output.{reportOf, placed, tooShort, written}
 use Rattle.basics.specs.declared.Report.{Report}
 use Rattle.account_keys.proofs.Laws.{count-held}
 use Rattle.advertising.proofs.Laws.{filter-long}
-use Rattle.basics.proofs.Lent.{refused, whole}
+use Rattle.basics.proofs.Lent.{left-alone, all-written}
 
 -- what holds of a text holds of its other name
 pub sent-as : (o : List ℕ) {text other x : List ℕ} {r : Report} → text ≡ other
@@ -35,7 +35,7 @@ pub behind-header : (o sent vs : List ℕ) {x : List ℕ} {r : Report} {rest n :
     → 4 + length vs ≤ length o
     → (r ≡ reportOf (structure sent) o) × (sets x 4 vs ≡ placed (structure sent) o)
 behind-header o sent vs {rest = rest} t e w p q h =
-    sent-as o (ap structure t) (whole (structure vs) o (omega arith) w (omega arith)
+    sent-as o (ap structure t) (all-written (structure vs) o (omega arith) w (omega arith)
     (stored-on o (rest ∷ 0x16 ∷ 0x2C ∷ 0xFE ∷ []) e vs h
     ∙ ap (λ (k : ℕ). (k ∷ 0x16 ∷ 0x2C ∷ 0xFE ∷ vs) ++ drop (length (structure vs)) o) p))
 
@@ -71,7 +71,7 @@ module _ (ks : AccountKeys) (v : Kept ks) (salt : List ℕ) (two : length salt �
   pub no-room : {r : Report} → length o < 6 + s + 3 → r ≡ tooShort
       → (r ≡ reportOf (structure (keysData (held ks) salt prompt)) o) ×
       (o ≡ placed (structure (keysData (held ks) salt prompt)) o)
-  no-room h e = refused (structure (keysData (held ks) salt prompt)) o (omega (arith, long)) e
+  no-room h e = left-alone (structure (keysData (held ks) salt prompt)) o (omega (arith, long)) e
 
   text-is : {p : List ℕ} {t : ℕ} → t ≡ promptType prompt → p ≡ filter (held ks) salt
       → (((s + 8) ∷ 0x16 ∷ 0x2C ∷ 0xFE ∷ 0x00 ∷ (s * 16 + t) ∷ []) ++ p) ++ (0x21 ∷ salt)
@@ -100,7 +100,7 @@ module _ (ks : AccountKeys) (v : Kept ks) (salt : List ℕ) (two : length salt �
       let ended = pasted-on o (six ++ p) filled (0x21 ∷ salt) 3 (ap suc two) in
       let text : (six ++ p) ++ (0x21 ∷ salt) ≡ structure (keysData (held ks) salt prompt) = text-is f g in
       let count : length ((six ++ p) ++ (0x21 ∷ salt)) ≡ 6 + s + 3 = ap length text ∙ long in
-      sent-as o text (whole ((six ++ p) ++ (0x21 ∷ salt)) o (omega (arith, count)) w (sym count)
+      sent-as o text (all-written ((six ++ p) ++ (0x21 ∷ salt)) o (omega (arith, count)) w (sym count)
       (d ∙ ap (λ (n : ℕ). paste (putMid 6 (6 + s - 6) (set (set x 4 0) 5 (s * 16 + t)) p) n (0x21 ∷ salt) 3)
       end ∙ ended))
 

@@ -1,4 +1,3 @@
 pub mod Filter
 pub mod Payload
 pub mod Promises
-pub mod Samples

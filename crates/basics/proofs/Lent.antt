@@ -11,15 +11,15 @@ use Rattle.basics.specs.Output.{tooShort, written, reportOf, placed}
 use Rattle.basics.specs.declared.Report.{Report}
 
 -- the output is too short, and left alone
-pub refused : (text out : List ℕ) {r : Report} → length out < length text → r ≡ tooShort
+pub left-alone : (text out : List ℕ) {r : Report} → length out < length text → r ≡ tooShort
     → (r ≡ reportOf text out) × (out ≡ placed text out)
-refused text out h e =
+left-alone text out h e =
     let t : leb (length text) (length out) ≡ false = lt-leb (length text) (length out) h in
     (rw t e, rw t)
 
 -- the text is written, and what follows it stays
-pub whole : (text out : List ℕ) {r : Report} {n : ℕ} {x : List ℕ} → length text ≤ length out → r ≡ written n
+pub all-written : (text out : List ℕ) {r : Report} {n : ℕ} {x : List ℕ} → length text ≤ length out → r ≡ written n
     → n ≡ length text → x ≡ text ++ drop (length text) out → (r ≡ reportOf text out) × (x ≡ placed text out)
-whole text out h e f g =
+all-written text out h e f g =
     let t : leb (length text) (length out) ≡ true = le-leb (length text) (length out) h in
     (rw t (e ∙ ap written f), rw t g)

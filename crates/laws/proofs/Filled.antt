@@ -35,8 +35,8 @@ pub listed : {A : Type 0} (n : ℕ) (l : List A) (d : A) → length l ≡ n → 
 listed n l d e = rw (← e) (tabulate-getD l d)
 
 -- what holds of each value, and of the value past the end, holds at every place
-pub tabulate-all : {A : Type 0} (P : A → Type 0) (n : ℕ) (f : ℕ → A) (d : A) → P d → ((i : ℕ) → P (f i)) →
-    (i : ℕ) → P (getD (tabulate n f) i d)
+pub tabulate-all : {A : Type 0} (P : A → Type 0) (n : ℕ) (f : ℕ → A) (d : A)
+    → P d → ((i : ℕ) → P (f i)) → (i : ℕ) → P (getD (tabulate n f) i d)
 tabulate-all P zero f d p q i = p
 tabulate-all P (suc n) f d p q zero = q zero
 tabulate-all P (suc n) f d p q (suc i) = tabulate-all P n (λ k. f (suc k)) d p (λ k. q (suc k)) i

@@ -17,13 +17,13 @@ use Rattle.provider.specs.Device.{replies, Effect, clockStep, inTime}
 use Rattle.provider.specs.Event.{Event, Overflow, LinkUp, LinkDown, PairingMode, AddressRotated, PowerOn, FactoryReset, KeyBasedWrite, PairingStarted, ConfirmationNeeded, PasskeyWrite, PairingEnded, AccountKeyWrite, step}
 use Rattle.provider.specs.KeyBased.{tried, asked, accepted, settled, keyBasedOn, keyBasedWrite}
 use Rattle.provider.specs.Kinds.{isOnLink, linkOf, clockOf}
-use Rattle.provider.specs.Pairing.{Act, isStage, inStage, begun, shows, proves, keeps, goesOn, becomes, pairingStarted, confirmationNeeded, passkeyWrite, pairingEnded, accountKeyWrite}
+use Rattle.provider.specs.Pairing.{Act, inStage, begun, shows, proves, keeps, goesOn, pairingStarted, confirmationNeeded, passkeyWrite, pairingEnded, accountKeyWrite}
 use Rattle.provider.specs.Table.{sessionAfter}
 use Rattle.provider.specs.declared.Answer.the-variants.{ClockWentBack}
 use Rattle.provider.specs.declared.Device.{Device}
 use Rattle.provider.specs.declared.Reply.{Reply}
 use Rattle.request_guard.specs.Guard.{remembered, spent, locked}
-use Rattle.sessions.specs.Sessions.{expired, idle, sessionAt, withSession, atClock}
+use Rattle.sessions.specs.Sessions.{isStage, becomes, expired, idle, sessionAt, withSession, atClock}
 use Rattle.sessions.specs.declared.Session.{Session}
 use Rattle.sessions.specs.declared.Sessions.{Sessions}
 use Rattle.sessions.specs.declared.Stage.{Stage}

@@ -8,12 +8,13 @@ use lib.Dec.{ltb}
 use Rattle.laws.specs.Choice.{if_then_else_}
 use Rattle.provider.specs.Answers.{plain}
 use Rattle.provider.specs.Device.{Effect, replies, answers, dropAt, clockStep, inTime}
-use Rattle.provider.specs.Pairing.{Act, drops, acted, isStage, inStage}
+use Rattle.provider.specs.Pairing.{Act, drops, acted, inStage}
 use Rattle.provider.specs.Table.{Row, row, firstGiven, early, idleLink, otherStage, sessionAfter, changed}
 use Rattle.provider.specs.declared.Answer.{Answer}
 use Rattle.provider.specs.declared.Answer.the-variants.{Taken, ClockWentBack, LinkIdle, WrongStage}
 use Rattle.provider.specs.declared.Device.{Device}
 use Rattle.provider.specs.declared.Reply.{Reply}
+use Rattle.sessions.specs.Sessions.{isStage}
 use Rattle.sessions.specs.declared.Session.{Session}
 use Rattle.sessions.specs.declared.Stage.{Stage}
 use Rattle.sessions.specs.declared.Stage.the-variants.{Idle}

@@ -2,8 +2,9 @@
 -- Assumes nothing.
 use mathlib.Core.Path.{refl}
 use Rattle.account_keys.specs.StoredList.{keyBytes, writing}
+use Rattle.advertising.specs.Payload.{serviceData, payload}
 use Rattle.provider.specs.Samples.{SamplesAgree}
 
 pub samples-agree : SamplesAgree
-unfolding writing keyBytes
+unfolding writing keyBytes payload serviceData
 samples-agree = refl

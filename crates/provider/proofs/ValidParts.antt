@@ -1,23 +1,20 @@
 -- A valid device stays valid when one of its parts is changed to a valid one.
 -- Assumes nothing.
 use mathlib.Core.Bool.{true}
-use mathlib.Core.List.{List, [], _∷_}
+use mathlib.Core.List.{[]}
 use mathlib.Core.Path.{_∙_, _≡_, refl, ap}
 use Prim.Native.Nat.{ℕ}
 use native.Mathlib.Omega.{arith}
 use lib.Dec.{ltb}
-use lib.ListN.{length, getD, length-set}
+use lib.ListN.{length, length-set}
 use borrow.Author.Tests.{ltb-true}
 use Rattle.laws.proofs.All.{all-set, all-replicate}
 use Rattle.laws.specs.Lists.{All}
-use Rattle.account_keys.specs.Keys.{Sized, owned, kept}
-use Rattle.account_keys.specs.declared.AccountKey.{AccountKey}
+use Rattle.account_keys.specs.Keys.{owned, kept}
 use Rattle.account_keys.specs.declared.AccountKeys.{AccountKeys}
-use Rattle.account_keys.specs.declared.Reading.{Reading}
-use Rattle.provider.specs.Control.{started}
+use Rattle.provider.specs.Control.{started, off}
 use Rattle.provider.specs.Demands.{Canonical, Valid}
 use Rattle.provider.specs.Device.{withSessions, dropAt, withLink, withKeys, withGuard, withBeacon, dropAll, clockStep}
-use Rattle.provider.specs.Pairing.{withStored}
 use Rattle.provider.specs.declared.Beacon.{Beacon}
 use Rattle.provider.specs.declared.Device.{Device}
 use Rattle.provider.specs.declared.Start.{Start}
@@ -28,11 +25,10 @@ use Rattle.sessions.specs.declared.Sessions.{Sessions}
 use Rattle.request_guard.specs.Guard as guard
 use Rattle.account_keys.specs.Keys as keys
 use Rattle.account_keys.proofs.Laws.{kept-valid}
-use Rattle.account_keys.proofs.Storing.{stores-valid}
 use Rattle.request_guard.proofs.Laws.{fresh-valid, clock-valid}
 use Rattle.sessions.proofs.Laws.{expired-long, expired-all}
 
--- ---- sessions and keys
+-- ---- idle links, and no keys
 
 -- a link in a stage
 pub in-a-stage : (s : Session) → ltb 0 (stageNumber (s .stage)) ≡ true → Canonical s
@@ -43,18 +39,12 @@ in-a-stage s h e =
 pub idle-holds-nothing : Canonical idle
 idle-holds-nothing e = refl
 
+all-idle : All Canonical (allIdle .links)
+all-idle = all-replicate Canonical linkCount idle idle-holds-nothing
+
 pub no-keys-valid : keys.Valid (kept [])
 unfolding owned
 no-keys-valid = kept-valid [] (omega arith) tt refl
-
--- sixteen bytes, of which the first is 0x04
-abbrev pub Storable : AccountKey → Type 0
-Storable k = Sized k × (getD (k .bytes) 0 0 ≡ 0x04)
-
-pub stored-valid : (ks : AccountKeys) (l : List AccountKey) → keys.Valid ks → All Storable l → keys.Valid
-    (withStored ks l)
-stored-valid ks [] v p = v
-stored-valid ks (k ∷ more) v p = stores-valid ks k v (p .0 .0) (p .0 .1)
 
 -- ---- devices
 
@@ -80,7 +70,7 @@ module _ {d : Device} (v : Valid d) where
   dropAt-valid l = link-valid l idle idle-holds-nothing
 
   pub dropAll-valid : Valid (dropAll d)
-  dropAll-valid = sessions-valid allIdle refl (all-replicate Canonical linkCount idle idle-holds-nothing)
+  dropAll-valid = sessions-valid allIdle refl all-idle
 
   pub clockStep-valid : (t : ℕ) → Valid (clockStep t d)
   unfolding clockStep
@@ -92,7 +82,9 @@ module _ {d : Device} (v : Valid d) where
       record { keys = v .keys; links = links; sessions = held; guard = clock-valid (d .guard) (v .guard) t }
 
 -- power-on with a valid list
-pub started-valid : (r : Reading) (s : Start) → keys.Valid (r .keys) → Valid (started r s)
-started-valid r s p =
-    let held : All Canonical (allIdle .links) = all-replicate Canonical linkCount idle idle-holds-nothing in
-    record { keys = p; links = refl; sessions = held; guard = fresh-valid }
+pub started-valid : (ks : AccountKeys) (s : Start) → keys.Valid ks → Valid (started ks s)
+started-valid ks s p = record { keys = p; links = refl; sessions = all-idle; guard = fresh-valid }
+
+-- the value before any device
+pub off-valid : Valid off
+off-valid = record { keys = no-keys-valid; links = refl; sessions = all-idle; guard = fresh-valid }

@@ -7,13 +7,12 @@ use lib.Dec.{ltb}
 use lib.ListN.{replicate}
 use Rattle.laws.specs.Choice.{if_then_else_}
 use Rattle.account_keys.specs.Keys.{held, kept}
-use Rattle.advertising.specs.declared.Prompt.{Prompt}
-use Rattle.advertising.specs.Payload.{payload}
 use Rattle.account_keys.specs.StoredList.{reading}
+use Rattle.account_keys.specs.declared.AccountKeys.{AccountKeys}
 use Rattle.account_keys.specs.declared.ListForm.{ListForm}
 use Rattle.account_keys.specs.declared.ListForm.the-variants.{WellFormed, Malformed}
-use Rattle.account_keys.specs.declared.AccountKeys.{AccountKeys}
-use Rattle.account_keys.specs.declared.Reading.{Reading}
+use Rattle.advertising.specs.Payload.{payload}
+use Rattle.advertising.specs.declared.Prompt.{Prompt}
 use Rattle.basics.specs.declared.Address.{Address}
 use Rattle.provider.specs.Device.{Effect, answers, takes, inTime, dropAll, dropAt, withGuard, withKeys, withBeacon}
 use Rattle.provider.specs.declared.Answer.the-variants.{UnknownLink, ListMalformed}

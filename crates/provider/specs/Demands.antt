@@ -82,7 +82,8 @@ Lost e x y =
 -- an event of the first run on device d and of the second on device c; where the second stores a key, the first stores the same
 abbrev pub Compared : Device → Device → Event → Type 0
 Compared d c e =
-    (Alike (step d e) (step c e) ⊎ Lost e (step d e) (step c e)) × ((k : AccountKey) → Stores c e k → Stores d e k)
+    (Alike (step d e) (step c e) ⊎ Lost e (step d e) (step c e)) ×
+    ((k : AccountKey) → Stores c e k → Stores d e k)
 
 -- the parting: the first run stores a key and the second does not
 abbrev pub Parting : Device → Device → Event → Type 0
@@ -100,7 +101,8 @@ TwoRuns d c (same e m) =
 abbrev pub GapOnlyTakesAway : Type 0
 GapOnlyTakesAway =
     (d : Device) (stored : List ℕ) (start : Start) → answerOf d (PowerOn stored start) ≡ Taken
-    → (es fs : List Event) (m : Marked es fs) → TwoRuns (next d (PowerOn stored start)) (next d (PowerOn stored start)) m
+    → (es fs : List Event) (m : Marked es fs) → TwoRuns (next d (PowerOn stored start))
+    (next d (PowerOn stored start)) m
 
 -- "A request is accepted .. exactly when its write gets 0": none is on link l in a run from d
 abbrev pub NoRequest : ℕ → Device → List Event → Type 0
@@ -119,6 +121,7 @@ NothingWithoutRequest =
 -- ---- "An event on one link leaves the other links' K and stages as they are, timers and answer 4 apart."
 abbrev pub LinksApart : Type 0
 LinksApart =
-    (d : Device) (e : Event) (l : ℕ) → isOnLink e ≡ true → (linkOf e ≡ l → ⊥) → (answerOf d e ≡ ClockWentBack → ⊥)
+    (d : Device) (e : Event) (l : ℕ) → isOnLink e ≡ true → (linkOf e ≡ l → ⊥) →
+    (answerOf d e ≡ ClockWentBack → ⊥)
     → (sessionAt (next d e .sessions) l ≡ sessionAt (d .sessions) l)
     ⊎ (sessionAt (next d e .sessions) l ≡ atClock (clockOf e) (sessionAt (d .sessions) l))

@@ -18,7 +18,7 @@ use Rattle.provider.specs.declared.Answer.the-variants.{Taken, UnknownLi
 use Rattle.provider.specs.declared.Confirm.the-variants.{Yes, No}
 use Rattle.provider.specs.declared.Device.{Device}
 use Rattle.provider.specs.declared.Reply.{Reply}
-use Rattle.sessions.specs.Sessions.{idle, sessionAt, stageNumber}
+use Rattle.sessions.specs.Sessions.{idle, sessionAt, isStage, becomes}
 use Rattle.sessions.specs.declared.Session.{Session}
 use Rattle.sessions.specs.declared.Stage.{Stage}
 use Rattle.sessions.specs.declared.Stage.the-variants.{Idle, Asked, Pairing, Confirming, Proved, Paired}
@@ -48,19 +48,12 @@ abbrev pub acted : Device → ℕ → Act → Effect
 acted d l a =
     replies (withLink (withKeys d (withStored (d .keys) (a .stored))) l (a .session)) (a .reply) (a .output)
 
-abbrev pub isStage : Stage → Stage → Bool
-isStage x y = eqb (stageNumber x) (stageNumber y)
-
 -- answers 9, "on an idle link", and 10, "link's stage is not the one this event needs"
 unfoldable pub inStage : Stage → (Session → Act) → Device → ℕ → List ℕ → Effect
 inStage needed act d l out =
     if isStage (sessionAt (d .sessions) l .stage) Idle then answers d LinkIdle out else
     if not (isStage (sessionAt (d .sessions) l .stage) needed) then answers (dropAt d l) WrongStage out else
     acted d l (act (sessionAt (d .sessions) l))
-
--- the session in its next stage, from moment t on
-abbrev pub becomes : Stage → ℕ → Session → Session
-becomes stage t s = record { stage = stage; key = s .key; since = record { 0 = t }; passkey = 0 }
 
 -- ---- the events
 
@@ -135,12 +128,16 @@ abbrev pub dropsHeld : Device → ℕ → Effect
 dropsHeld d l =
     if isStage (sessionAt (d .sessions) l .stage) Idle then answers d LinkIdle [] else takes (dropAt d l)
 
+-- "Success: proved to paired."
+abbrev pub pairs : ℕ → Session → Act
+pairs t s = goesOn (becomes Paired t s) []
+
 -- "Pairing ended. Success: proved to paired. Failure: K dropped in any stage, answer 0."
 unfoldable pub pairingEnded : Device → ℕ → ℕ → Bool → Effect
 pairingEnded d l t success =
     if ltb 7 l then answers d UnknownLink [] else
     inTime d t []
-    (λ e. if success then inStage Proved (λ s. goesOn (becomes Paired t s) []) e l [] else dropsHeld e l)
+    (λ e. if success then inStage Proved (pairs t) e l [] else dropsHeld e l)
 
 -- "In paired, decrypt 16 bytes. Byte 0 must be 0x04 .. K is dropped whatever the answer from 0 or 9 to 12."
 unfoldable pub keeps : List ℕ → Session → Act

@@ -11,16 +11,17 @@ use Rattle.account_keys.specs.StoredList.{reading}
 use Rattle.account_keys.specs.declared.ListForm.{ListForm}
 use Rattle.account_keys.specs.declared.ListForm.the-variants.{WellFormed, Malformed}
 use Rattle.key_based.specs.Request.{hasPublicKey, sized, opened, Found, found, nothing, requestSalt}
+use Rattle.provider.specs.Answers.{answerNumber}
 use Rattle.provider.specs.Device.{clockStep, dropAll, dropAt, withGuard}
 use Rattle.provider.specs.Event.{Event, Overflow, LinkUp, LinkDown, PairingMode, AddressRotated, PowerOn, FactoryReset, KeyBasedWrite, PairingStarted, ConfirmationNeeded, PasskeyWrite, PairingEnded, AccountKeyWrite, lent, step, next}
 use Rattle.provider.specs.KeyBased.{tried}
 use Rattle.provider.specs.Kinds.{linkOf, clockOf}
-use Rattle.provider.specs.Pairing.{isStage, refusedCapability, badBlock}
+use Rattle.provider.specs.Pairing.{refusedCapability, badBlock}
 use Rattle.provider.specs.declared.Answer.{Answer}
 use Rattle.provider.specs.declared.Answer.the-variants.{Taken, UnknownLink, WrongLength, PasskeyTooLarge, ClockWentBack, LockedOut, NotInPairingMode, NoKeyFits, SaltSpent, LinkIdle, WrongStage, CapabilityRefused, BadBlock, OutputTooShort, ListMalformed}
 use Rattle.provider.specs.declared.Device.{Device}
 use Rattle.request_guard.specs.Guard.{remembered, spent, locked, failedAt}
-use Rattle.sessions.specs.Sessions.{sessionAt}
+use Rattle.sessions.specs.Sessions.{isStage, sessionAt}
 use Rattle.sessions.specs.declared.Session.{Session}
 use Rattle.sessions.specs.declared.Stage.{Stage}
 use Rattle.sessions.specs.declared.Stage.the-variants.{Idle, Asked, Pairing, Confirming, Proved, Paired}
@@ -37,6 +38,11 @@ row a b = record { answer = a; given = b }
 unfoldable pub firstGiven : List Row → Answer
 firstGiven [] = Taken
 firstGiven (r ∷ rs) = if r .given then r .answer else firstGiven rs
+
+-- its number in the document's table
+unfoldable pub firstNumber : List Row → ℕ
+firstNumber [] = 0
+firstNumber (r ∷ rs) = if r .given then answerNumber (r .answer) else firstNumber rs
 
 -- ---- the conditions
 
@@ -156,6 +162,10 @@ answerOf d e = step d e .gives .reply .answer
 -- "gets one answer from document 01's table": the answer is n exactly if row n is the first whose condition holds
 abbrev pub AnswerTable : Type 0
 AnswerTable = (d : Device) (e : Event) → answerOf d e ≡ firstGiven (rows d e)
+
+-- the same in the document's numbers
+abbrev pub NumberTable : Type 0
+NumberTable = (d : Device) (e : Event) → answerNumber (answerOf d e) ≡ firstNumber (rows d e)
 
 -- "A refusal writes nothing to lent memory and changes only what its row names."
 abbrev pub Refusals : Type 0

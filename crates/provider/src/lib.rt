@@ -1,4 +1,6 @@
 // The Fast Pair provider: one method for each event of document 01. A device goes in by value, and the next one comes back.
+mod pairing;
+
 use account_keys::AccountKeys;
 use account_keys::ListForm;
 use advertising::Prompt;
@@ -20,7 +22,7 @@ ghost use Rattle.provider.specs.Answers as reply;
 ghost use Rattle.provider.specs.Control as rule;
 ghost use Rattle.provider.specs.Control.{advertised};
 ghost use Rattle.provider.specs.Demands.{Valid};
-ghost use Rattle.provider.specs.Device.{given, clockStep, dropAll, dropAt};
+ghost use Rattle.provider.specs.Device.{given, clockStep, dropAll, dropAt, withLink};
 
 // Document 01's answers, one for each row of its table; `answerNumber` of specs/Answers gives the number.
 pub enum Answer {
@@ -269,13 +271,20 @@ impl Device {
         self
     }
 
-    fn drop_at(mut self, link: Link) -> Device
+    fn with_session(mut self, link: Link, session: Session) -> Device
+        requires { ⌜ link .0 < linkCount ⌝ }
+        ensures { λ r. ⌜ r ≡ withLink self (link .0) session ⌝ }
+    {
+        let sessions = self.sessions;
+        self.sessions = sessions.with(link, session);
+        self
+    }
+
+    fn drop_at(self, link: Link) -> Device
         requires { ⌜ link .0 < linkCount ⌝ }
         ensures { λ r. ⌜ r ≡ dropAt self (link .0) ⌝ }
     {
-        let sessions = self.sessions;
-        self.sessions = sessions.with(link, Session::idle());
-        self
+        self.with_session(link, Session::idle())
     }
 }
 

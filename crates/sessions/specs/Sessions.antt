@@ -4,7 +4,7 @@ use mathlib.Core.Path.{_≡_}
 use mathlib.Core.Bool.{Bool, true, false}
 use mathlib.Core.List.{List, [], map}
 use Prim.Native.Nat.{ℕ, _-_, _<_}
-use lib.Dec.{leb}
+use lib.Dec.{leb, eqb}
 use lib.ListN.{length, getD, set, replicate}
 use Rattle.laws.specs.Choice.{if_then_else_, _and_}
 use Rattle.laws.specs.Lists.{All}
@@ -42,6 +42,13 @@ stageNumber Pairing = 2
 stageNumber Confirming = 3
 stageNumber Proved = 4
 stageNumber Paired = 5
+
+abbrev pub isStage : Stage → Stage → Bool
+isStage x y = eqb (stageNumber x) (stageNumber y)
+
+-- the session in its next stage, from moment t on
+abbrev pub becomes : Stage → ℕ → Session → Session
+becomes stage t s = record { stage = stage; key = s .key; since = record { 0 = t }; passkey = 0 }
 
 -- "Pairing and proved have no timer."
 abbrev pub hasTimer : Stage → Bool

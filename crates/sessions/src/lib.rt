@@ -4,7 +4,7 @@ use basics::Moment;
 ghost use mathlib.Core.Path.{_≡_};
 ghost use Prim.Native.Nat.{_<_};
 ghost use lib.ListN.{length};
-ghost use Rattle.sessions.specs.Sessions.{linkCount, idle, hasTimer, atClock, allIdle, sessionAt, withSession, expired};
+ghost use Rattle.sessions.specs.Sessions.{linkCount, stageNumber, isStage, becomes, idle, hasTimer, atClock, allIdle, sessionAt, withSession, expired};
 
 // Document 01's stages; an idle link is in none.
 pub enum Stage {
@@ -36,6 +36,27 @@ impl Session {
             stage: Stage::Idle,
             key: [0u8; 16],
             since: Moment(0),
+            passkey: 0,
+        }
+    }
+
+    // Whether the session is in a stage; an idle one is in `Idle`.
+    pub fn is_in(self, stage: Stage) -> bool
+        ensures { λ r. ⌜ r ≡ isStage (self .stage) stage ⌝ }
+    {
+        let now = self.stage;
+        number(now) == number(stage)
+    }
+
+    // The session in its next stage, which begins at a moment.
+    pub fn moved(self, stage: Stage, now: Moment) -> Session
+        ensures { λ r. ⌜ r ≡ becomes stage (now .0) self ⌝ }
+    {
+        let key = self.key;
+        Session {
+            stage: stage,
+            key: key,
+            since: now,
             passkey: 0,
         }
     }
@@ -107,5 +128,18 @@ fn timed(stage: Stage) -> bool
         Stage::Confirming => true,
         Stage::Proved => false,
         Stage::Paired => true,
+    }
+}
+
+fn number(stage: Stage) -> u8
+    ensures { λ r. ⌜ r ≡ stageNumber stage ⌝ }
+{
+    match stage {
+        Stage::Idle => 0,
+        Stage::Asked => 1,
+        Stage::Pairing => 2,
+        Stage::Confirming => 3,
+        Stage::Proved => 4,
+        Stage::Paired => 5,
     }
 }

@@ -1,5 +1,5 @@
 // AES-128: FIPS 197, appendix A.1 (key expansion), B and C.1 (one block each).
-use crate::hex::line;
+use crate::hex::block_line;
 ghost use Prim.Native.Nat.{_<_};
 
 pub fn run() {
@@ -63,9 +63,4 @@ pub fn encrypted(name: &[u8], key: [u8; 16], block: [u8; 16]) {
 pub fn decrypted(name: &[u8], key: [u8; 16], block: [u8; 16]) {
     let result = aes128::decrypt(key, block);
     block_line(name, &result);
-}
-
-// One line: a key or a block.
-fn block_line(name: &[u8], bytes: &[u8; 16]) {
-    line(name, bytes);
 }

@@ -4,9 +4,15 @@ mod cipher;
 mod fast_pair;
 mod hash;
 mod hex;
+mod owners;
+mod payloads;
+mod report;
+mod stored_list;
 
 fn main() {
     hash::run();
     cipher::run();
     fast_pair::run();
+    payloads::run();
+    stored_list::run();
 }

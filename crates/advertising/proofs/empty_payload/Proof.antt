@@ -6,11 +6,11 @@ use Rattle.advertising.specs.Payload.{structure}
 use Rattle.advertising.proofs.empty_payload.Tie as tie
 use Rattle.advertising.proofs.Texts.{behind-header}
 use Rattle.advertising.proofs.empty_payload.Statement.{statement}
-use Rattle.basics.proofs.Lent.{refused}
+use Rattle.basics.proofs.Lent.{left-alone}
 
 returns : tie.Need-returns
 returns c =
-    refused (structure (0 ∷ 0 ∷ [])) (c .before .before .before .args .out .now) (c .before .if1 .taken)
+    left-alone (structure (0 ∷ 0 ∷ [])) (c .before .before .before .args .out .now) (c .before .if1 .taken)
     (c .too-short .ensures)
 
 returns-2 : tie.Need-returns-2

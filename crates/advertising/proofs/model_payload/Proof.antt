@@ -9,11 +9,11 @@ use Rattle.advertising.specs.Payload.{structure}
 use Rattle.advertising.proofs.model_payload.Tie as tie
 use Rattle.advertising.proofs.Texts.{behind-header}
 use Rattle.advertising.proofs.model_payload.Statement.{statement}
-use Rattle.basics.proofs.Lent.{refused}
+use Rattle.basics.proofs.Lent.{left-alone}
 
 returns : tie.Need-returns
 returns c =
-    let h : length (c .before .before .before .args .t1) ≡ 3 = search needs in refused
+    let h : length (c .before .before .before .args .t1) ≡ 3 = search needs in left-alone
     (structure (c .before .before .before .args .t1)) (c .before .before .before .args .out .now)
     (omega (arith, c .before .if1 .taken)) (c .too-short .ensures)
 

@@ -1,0 +1,50 @@
+-- An unknown link, and the two ways of the clock.
+use mathlib.Core.List.{[]}
+use mathlib.Core.Path.{sym, ap, _∙_}
+use borrow.Author.Needs.{needs}
+use borrow.Author.Tests.{lt-ltb, le-ltb}
+use Rattle.provider.specs.Device.{Effect, answers}
+use Rattle.provider.specs.Pairing as rule
+use Rattle.provider.proofs.Device.pairing_started.Tie as tie
+use Rattle.provider.proofs.Device.pairing_started.Statement.{statement}
+use Rattle.provider.proofs.Laws.{goes-back, goes-on}
+
+returns : tie.Need-returns
+unfolding rule.pairingStarted
+returns c =
+    c .answers .ensures ∙ rw (lt-ltb 7 (c .before .before .before .args .link .0) (c .before .if1 .taken))
+
+returns-2 : tie.Need-returns-2
+unfolding rule.pairingStarted
+returns-2 c =
+    c .went-back .ensures ∙ rw
+    (le-ltb 7 (c .before .before .before .before .before .before .before .args .link .0)
+    (c .before .before .before .before .before .if1 .left)) (sym
+    (ap (λ (x : Effect). x .gives)
+    (goes-back (c .before .before .before .before .before .before .before .args .self)
+    (c .before .before .before .before .before .before .before .args .clock .0) [] _ (c .before .if2 .taken))))
+
+returns-3 : tie.Need-returns-3
+unfolding rule.pairingStarted
+returns-3 c =
+    c .begin-pairing .ensures ∙ rw (
+      le-ltb 7 (c .before .before .before .before .before .before .before .before .args .link .0)
+          (c .before .before .before .before .before .before .if1 .left),
+      c .before .clock-step .ensures,
+    )
+    (sym (ap (λ (x : Effect). x .gives)
+    (goes-on (c .before .before .before .before .before .before .before .before .args .self)
+    (c .before .before .before .before .before .before .before .before .args .clock .0) [] _
+    (c .before .before .if2 .left))))
+
+pub pairing-started-spec : {M : Type 1} → statement M
+pairing-started-spec =
+    tie.close
+    (tie.spec
+    (λ c κs. search needs)
+    returns
+    (λ c κs. search needs)
+    returns-2
+    (λ c κs. search needs)
+    (λ c κs. search needs)
+    returns-3)

@@ -1,0 +1,64 @@
+-- The three ways of the stage.
+use mathlib.Core.List.{[]}
+use mathlib.Core.Path.{sym, ap, _∙_}
+use borrow.Author.Needs.{needs}
+use borrow.Author.Tests.{not-true, not-false}
+use Rattle.provider.specs.Device.{Effect, given, answers}
+use Rattle.provider.specs.declared.Answer.the-variants.{Taken, WrongStage}
+use Rattle.provider.specs.declared.Device.{Device}
+use Rattle.sessions.specs.declared.Stage.the-variants.{Pairing}
+use Rattle.provider.specs.Pairing as rule
+use Rattle.provider.proofs.Device.show_passkey.Tie as tie
+use Rattle.provider.proofs.Device.show_passkey.Statement.{statement}
+use Rattle.provider.proofs.Laws.{link-idle, wrong-stage, right-stage}
+
+returns : tie.Need-returns
+returns c =
+    c .answers .ensures ∙ sym (ap (λ (x : Effect). x .gives) (link-idle Pairing
+    (rule.shows (c .before .before .before .before .args .clock .0)
+    (c .before .before .before .before .args .passkey)) (c .before .before .before .before .args .self)
+    (c .before .before .before .before .args .link .0) [] (c .before .before .before .at .ensures)
+    (sym (c .before .before .is-in .ensures) ∙ c .before .if1 .taken)))
+
+returns-2 : tie.Need-returns-2
+returns-2 c =
+    c .answers2 .ensures ∙ ap (λ (d : Device). given d WrongStage) (c .before .drop-at .ensures) ∙ sym
+    (ap (λ (x : Effect). x .gives) (wrong-stage Pairing (rule.shows
+    (c .before .before .before .before .before .before .before .args .clock .0)
+    (c .before .before .before .before .before .before .before .args .passkey))
+    (c .before .before .before .before .before .before .before .args .self)
+    (c .before .before .before .before .before .before .before .args .link .0) []
+    (c .before .before .before .before .before .before .at .ensures)
+    (sym (c .before .before .before .before .before .is-in .ensures)
+    ∙ c .before .before .before .before .if1 .left) (sym (c .before .before .before .is-in2 .ensures)
+    ∙ not-true _ (c .before .before .if2 .taken))))
+
+returns-3 : tie.Need-returns-3
+returns-3 c =
+    c .answers3 .ensures ∙ ap (λ (d : Device). given d Taken) (c .before .with-session .ensures) ∙ sym
+    (ap (λ (x : Effect). x .gives) (right-stage Pairing (rule.shows
+    (c .before .before .before .before .before .before .before .before .args .clock .0)
+    (c .before .before .before .before .before .before .before .before .args .passkey))
+    (c .before .before .before .before .before .before .before .before .args .self)
+    (c .before .before .before .before .before .before .before .before .args .link .0) []
+    (c .before .before .before .before .before .before .before .at .ensures)
+    (sym (c .before .before .before .before .before .before .is-in .ensures)
+    ∙ c .before .before .before .before .before .if1 .left) (sym
+    (c .before .before .before .before .is-in2 .ensures) ∙ not-false _
+    (c .before .before .before .if2 .left))))
+
+pub show-passkey-spec : {M : Type 1} → statement M
+show-passkey-spec =
+    tie.close
+    (tie.spec
+    (λ c κs. search needs)
+    (λ c κs. search needs)
+    (λ c κs. search needs)
+    returns
+    (λ c κs. search needs)
+    (λ c κs. search needs)
+    (λ c κs. search needs)
+    returns-2
+    (λ c κs. search needs)
+    (λ c κs. search needs)
+    returns-3)

@@ -1,0 +1,188 @@
+// Document 01: pairing started, confirmation needed, passkey write, pairing ended, account key write.
+// Each has two methods: the checks that need no session, and what the event does on a known link after the clock step.
+use crate::Answer;
+use crate::Confirm;
+use crate::Device;
+use crate::Outcome;
+use account_keys::AccountKey;
+use basics::Link;
+use basics::Moment;
+use sessions::Session;
+use sessions::Stage;
+ghost use mathlib.Core.Path.{_≡_};
+ghost use mathlib.Core.List.{[]};
+ghost use Prim.Native.Nat.{_<_, _≤_};
+ghost use lib.ListN.{length};
+ghost use Rattle.account_keys.specs.Keys.{Kept, held, kept, stored};
+ghost use Rattle.sessions.specs.Sessions.{linkCount};
+ghost use Rattle.provider.specs.Demands.{Valid};
+ghost use Rattle.provider.specs.Device.{withKeys};
+ghost use Rattle.provider.specs.Pairing as rule;
+
+impl Device {
+    pub fn pairing_started(self, link: Link, clock: Moment, capability: u8) -> Outcome
+        requires { ⌜ Valid self ⌝ }
+        ensures { λ r. ⌜ r ≡ rule.pairingStarted self (link .0) (clock .0) capability .gives ⌝ }
+    {
+        if 7 < link.0 {
+            return self.answers(Answer::UnknownLink);
+        }
+        let stored = self.clock;
+        if clock.0 < stored.0 {
+            return self.went_back();
+        }
+        self.clock_step(clock)
+            .begin_pairing(link, clock, capability)
+    }
+
+    fn begin_pairing(self, link: Link, clock: Moment, capability: u8) -> Outcome
+        requires { ⌜ link .0 < linkCount ⌝ }
+        ensures { λ r. ⌜ r ≡ rule.inStage Stage.Asked (rule.begun (clock .0) capability) self (link .0) [] .gives ⌝ }
+    {
+        let session = self.sessions.at(link);
+        if session.is_in(Stage::Idle) {
+            return self.answers(Answer::LinkIdle);
+        }
+        if !session.is_in(Stage::Asked) {
+            return self.drop_at(link).answers(Answer::WrongStage);
+        }
+        if capability == 3 {
+            return self.drop_at(link).answers(Answer::CapabilityRefused);
+        }
+        if 4 < capability {
+            return self.drop_at(link).answers(Answer::CapabilityRefused);
+        }
+        self.with_session(link, session.moved(Stage::Pairing, clock))
+            .answers(Answer::Taken)
+    }
+
+    pub fn confirmation_needed(self, link: Link, clock: Moment, passkey: u32) -> Outcome
+        requires { ⌜ Valid self ⌝ }
+        ensures { λ r. ⌜ r ≡ rule.confirmationNeeded self (link .0) (clock .0) passkey .gives ⌝ }
+    {
+        if 7 < link.0 {
+            return self.answers(Answer::UnknownLink);
+        }
+        if 999999 < passkey {
+            return self.answers(Answer::PasskeyTooLarge);
+        }
+        let stored = self.clock;
+        if clock.0 < stored.0 {
+            return self.went_back();
+        }
+        self.clock_step(clock).show_passkey(link, clock, passkey)
+    }
+
+    fn show_passkey(self, link: Link, clock: Moment, passkey: u32) -> Outcome
+        requires { ⌜ link .0 < linkCount ⌝ }
+        ensures { λ r. ⌜ r ≡ rule.inStage Stage.Pairing (rule.shows (clock .0) passkey) self (link .0) [] .gives ⌝ }
+    {
+        let session = self.sessions.at(link);
+        if session.is_in(Stage::Idle) {
+            return self.answers(Answer::LinkIdle);
+        }
+        if !session.is_in(Stage::Pairing) {
+            return self.drop_at(link).answers(Answer::WrongStage);
+        }
+        let key = session.key;
+        let shown = Session {
+            stage: Stage::Confirming,
+            key: key,
+            since: clock,
+            passkey: passkey,
+        };
+        self.with_session(link, shown).answers(Answer::Taken)
+    }
+
+    pub fn pairing_ended(self, link: Link, clock: Moment, success: bool) -> Outcome
+        requires { ⌜ Valid self ⌝ }
+        ensures { λ r. ⌜ r ≡ rule.pairingEnded self (link .0) (clock .0) success .gives ⌝ }
+    {
+        if 7 < link.0 {
+            return self.answers(Answer::UnknownLink);
+        }
+        let stored = self.clock;
+        if clock.0 < stored.0 {
+            return self.went_back();
+        }
+        if success {
+            return self.clock_step(clock).pair(link, clock);
+        }
+        self.clock_step(clock).give_up(link)
+    }
+
+    fn pair(self, link: Link, clock: Moment) -> Outcome
+        requires { ⌜ link .0 < linkCount ⌝ }
+        ensures { λ r. ⌜ r ≡ rule.inStage Stage.Proved (rule.pairs (clock .0)) self (link .0) [] .gives ⌝ }
+    {
+        let session = self.sessions.at(link);
+        if session.is_in(Stage::Idle) {
+            return self.answers(Answer::LinkIdle);
+        }
+        if !session.is_in(Stage::Proved) {
+            return self.drop_at(link).answers(Answer::WrongStage);
+        }
+        self.with_session(link, session.moved(Stage::Paired, clock))
+            .answers(Answer::Taken)
+    }
+
+    // A failed pairing ends whatever stage the link was in.
+    fn give_up(self, link: Link) -> Outcome
+        requires { ⌜ link .0 < linkCount ⌝ }
+        ensures { λ r. ⌜ r ≡ rule.dropsHeld self (link .0) .gives ⌝ }
+    {
+        let session = self.sessions.at(link);
+        if session.is_in(Stage::Idle) {
+            return self.answers(Answer::LinkIdle);
+        }
+        self.drop_at(link).answers(Answer::Taken)
+    }
+
+    pub fn account_key_write(self, link: Link, clock: Moment, block: &[u8]) -> Outcome
+        requires { ⌜ Valid self ⌝ }
+        ensures { λ r. ⌜ r ≡ rule.accountKeyWrite self (link .0) (clock .0) (now (block .entry)) .gives ⌝ }
+    {
+        if 7 < link.0 {
+            return self.answers(Answer::UnknownLink);
+        }
+        let stored = self.clock;
+        if clock.0 < stored.0 {
+            return self.went_back();
+        }
+        self.clock_step(clock).keep_key(link, block)
+    }
+
+    // K is dropped, whatever becomes of the block.
+    fn keep_key(self, link: Link, block: &[u8]) -> Outcome
+        requires { ⌜ (link .0 < linkCount) × Kept (self .keys) ⌝ }
+        ensures { λ r. ⌜ r ≡ rule.inStage Stage.Paired (rule.keeps (now (block .entry))) self (link .0) [] .gives ⌝ }
+    {
+        let session = self.sessions.at(link);
+        if session.is_in(Stage::Idle) {
+            return self.answers(Answer::LinkIdle);
+        }
+        if !session.is_in(Stage::Paired) {
+            return self.drop_at(link).answers(Answer::WrongStage);
+        }
+        if block.len() != 16 {
+            return self.drop_at(link).answers(Answer::BadBlock);
+        }
+        let key = session.key;
+        let plain = aes128::decrypt(key, basics::sixteen(block, 0));
+        if plain[0] != 0x04 {
+            return self.drop_at(link).answers(Answer::BadBlock);
+        }
+        self.with_key(AccountKey { bytes: plain })
+            .drop_at(link)
+            .answers(Answer::Taken)
+    }
+
+    fn with_key(mut self, key: AccountKey) -> Device
+        requires { ⌜ Kept (self .keys) ⌝ }
+        ensures { λ r. ⌜ r ≡ withKeys self (kept (stored (held (self .keys)) key)) ⌝ }
+    {
+        let keys = self.keys;
+        self.keys = keys.store(key);
+        self
+    }
+}

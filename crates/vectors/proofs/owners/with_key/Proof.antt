@@ -1,0 +1,13 @@
+-- A write of any key keeps the room.
+use borrow.Author.Needs.{needs}
+use Rattle.vectors.proofs.owners.with_key.Tie as tie
+use Rattle.account_keys.proofs.Storing.{stores-kept}
+use Rattle.vectors.proofs.owners.with_key.Statement.{statement}
+
+returns : tie.Need-returns
+returns c =
+    rw (c .store .ensures) (stores-kept (c .before .args .keys) (record { bytes = c .before .args .bytes })
+    (c .before .pre))
+
+pub with-key-spec : {M : Type 1} → statement M
+with-key-spec = tie.close (tie.spec (λ c κs. search needs) returns)
