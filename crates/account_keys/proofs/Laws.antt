@@ -2,15 +2,15 @@
 -- Assumes nothing.
 use mathlib.Core.Bool.{true, false}
 use mathlib.Core.List.{List, [], _∷_, _++_}
-use mathlib.Core.Path.{_≡_, sym, ap, ap₂, _∙_}
+use mathlib.Core.Path.{_≡_, ap}
 use Prim.Native.Nat.{ℕ, _+_, _-_, _≤_, _<_}
 use native.Mathlib.Nat.{le-refl}
 use native.Mathlib.Omega.{arith}
-use lib.ListN.{length, take, drop, set, getD, replicate, length-drop, length-append, length-replicate, length-take}
-use lib.Seq.{take-take, paste, take-all, getD-drop}
+use lib.ListN.{length, take, drop, set, getD, replicate}
+use lib.Seq.{take-take, paste}
 use borrow.Author.Tests.{le-leb, lt-leb}
-use Rattle.laws.proofs.Lists.{drop-held, drop-taken, paste-more}
-use Rattle.laws.proofs.Padded.{take-padded, set-padded}
+use Rattle.laws.proofs.Lists.{drop-held, drop-taken}
+use Rattle.laws.proofs.Padded.{take-padded, all-places, place-more, count-more, place-less, count-less, room-less}
 use Rattle.laws.specs.Choice.{_or_}
 use Rattle.laws.specs.Lists.{padded, All}
 use Rattle.account_keys.specs.Keys.{Valid, Sized, owned, Kept, limit, zeroKey, held, kept, member, stored}
@@ -30,13 +30,12 @@ member-step l n i k h j = rw (drop-held l n i nowhere h j)
 pub member-end : (l : List AccountKey) (n i : ℕ) (k : AccountKey) → n ≤ i → member (drop i (take n l)) k ≡ false
 member-end l n i k h = rw (drop-taken l n i h)
 
--- a valid list has all of its places
+-- the places of a kept value, as the laws of padded lists read them
+pub places : (ks : AccountKeys) → Kept ks → ks .keys ≡ padded limit zeroKey (held ks)
+places ks v = ap (λ (x : AccountKeys). x .keys) (v .whole)
+
 pub room : (ks : AccountKeys) → Kept ks → length (ks .keys) ≡ limit
-room ks v =
-    let e : length (ks .keys) ≡ length (padded limit zeroKey (held ks)) = ap
-    (λ (x : AccountKeys). length (x .keys)) (v .whole) in
-    let f = simp (length-append, length-replicate, length-take) at e in
-    omega (arith, v .few, f)
+room ks v = all-places limit zeroKey (ks .keys) (ks .count) (v .few) (places ks v)
 
 -- a list reads back from the value that holds it
 pub held-kept : (l : List AccountKey) → held (kept l) ≡ l
@@ -54,13 +53,10 @@ pub pushed : (ks : AccountKeys) (k : AccountKey) → Kept ks → ks .count < lim
     → _≡_ {A = AccountKeys} (record { keys = set (ks .keys) (ks .count) k; count = ks .count + 1 })
     (kept (held ks ++ (k ∷ [])))
 pushed ks k v h =
-    let n : ks .count ≡ length (held ks) = count-held ks v in
-    let p : set (ks .keys) (ks .count) k ≡ padded limit zeroKey (held ks ++ (k ∷ [])) =
-    ap₂ (λ (l : List AccountKey) (m : ℕ). set l m k) (ap (λ (x : AccountKeys). x .keys) (v .whole)) n
-    ∙ set-padded limit zeroKey (held ks) k (omega arith)
-    in
-    let q : ks .count + 1 ≡ length (held ks ++ (k ∷ [])) = simp length-append (omega arith) in
-    λ i. record { keys = p i; count = q i }
+    λ i. record {
+      keys = place-more limit zeroKey (ks .keys) (ks .count) (v .few) (places ks v) k h i;
+      count = count-more limit zeroKey (ks .keys) (ks .count) (v .few) (places ks v) k i;
+    }
 
 -- what is copied from the second place on, of a full list
 pub shifted : (ks : AccountKeys) → Kept ks → limit ≤ ks .count
@@ -71,30 +67,10 @@ pub shifted : (ks : AccountKeys) → Kept ks → limit ≤ ks .count
     })
     (kept (drop 1 (held ks)))
 shifted ks v h =
-    let five : length (ks .keys) ≡ limit = room ks v in
-    let full : held ks ≡ ks .keys = take-all (ks .count) (ks .keys) (omega arith) in
-    let size : length (drop 1 (ks .keys)) ≡ limit - 1 = simp length-drop (omega arith) in
-    let p : paste (replicate limit zeroKey) 0 (drop 1 (ks .keys)) (limit - 1) ≡ padded limit zeroKey
-    (drop 1 (held ks)) =
-    rw (full, take-all (limit - 1) (drop 1 (ks .keys)) (omega arith), size)
-    in
-    let q : limit - 1 ≡ length (drop 1 (held ks)) = rw full (sym size) in
-    λ i. record { keys = p i; count = q i }
-
--- a turn of the loop that copies from the second place on
-pub shift-more : (d l : List AccountKey) (i : ℕ) {r : List AccountKey} → r ≡ paste d 0 (drop 1 l) i
-    → i < length d
-    → i + 1 < length l → set r i (getD l (i + 1) nowhere) ≡ paste d 0 (drop 1 l) (i + 1)
-shift-more d l i {r} e h k =
-    let inside : i < length (drop 1 l) = simp length-drop (omega arith) in
-    let at : 1 + i ≡ i + 1 = omega arith in
-    let value : getD (drop 1 l) i nowhere ≡ getD l (i + 1) nowhere = getD-drop 1 l i nowhere ∙ rw at in
-    let place : 0 + i ≡ i = omega arith in
-    let below : 0 + i < length d = omega arith in
-    let m : set r (0 + i) (getD (drop 1 l) i nowhere) ≡ paste d 0 (drop 1 l) (i + 1) =
-    paste-more d 0 (drop 1 l) i nowhere e below inside
-    in
-    rw (value, place) at m
+    λ i. record {
+      keys = place-less limit zeroKey (ks .keys) (ks .count) (v .few) (places ks v) h i;
+      count = count-less limit zeroKey (ks .keys) (ks .count) (v .few) (places ks v) h i;
+    }
 
 -- the three ways of an account key write
 module _ (ks : AccountKeys) (k : AccountKey) (v : Kept ks) where
@@ -114,8 +90,9 @@ module _ (ks : AccountKeys) (k : AccountKey) (v : Kept ks) where
   -- a full list without its oldest key has room
   pub rest-kept : ks .count ≤ limit → Kept (kept (drop 1 (held ks))) × (length (drop 1 (held ks)) < limit)
   rest-kept h =
-      let size : length (drop 1 (held ks)) ≤ limit - 1 = simp (length-drop, ← count-held ks v) (omega arith) in
-      (kept-kept (drop 1 (held ks)) (omega arith), omega arith)
+      let size : length (drop 1 (held ks)) < limit = room-less limit zeroKey (ks .keys) (ks .count) h
+      (places ks v) (omega arith) in
+      (kept-kept (drop 1 (held ks)) (omega arith), size)
 
 pub all-held : (ks : AccountKeys) → take (ks .count) (held ks) ≡ held ks
 all-held ks = take-take (ks .count) (ks .count) (ks .keys) (le-refl (ks .count))

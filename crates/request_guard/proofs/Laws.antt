@@ -1,18 +1,24 @@
 -- Laws of the guard.
 -- Assumes nothing.
 use mathlib.Core.Bool.{false}
-use mathlib.Core.List.{List}
+use mathlib.Core.List.{[], _∷_, _++_, List}
 use mathlib.Core.Path.{_≡_, refl, sym, ap}
-use Prim.Native.Nat.{ℕ, _-_, _≤_, _<_}
+use Prim.Native.Nat.{_+_, ℕ, _-_, _≤_, _<_}
 use native.Mathlib.Omega.{arith}
 use lib.Dec.{leb}
-use lib.ListN.{length, length-append, length-drop, length-take}
-use borrow.Author.Tests.{le-leb, lt-leb, leb-false, eqb-false}
+use lib.ListN.{take, drop, set, getD, replicate, length, length-append, length-drop, length-take}
+use lib.Seq.{paste}
+use borrow.Author.Tests.{eq-eqb, ne-eqb, le-leb, lt-leb, leb-false, eqb-false}
 use Rattle.laws.proofs.Choice.{if-holds}
-use Rattle.laws.proofs.Padded.{take-padded}
-use Rattle.request_guard.specs.Guard.{Valid, saltLimit, noSalt, remembered, salts, remembering, noFailures, withFailures, fresh, locked, failedAt, acceptedWith, guardAt}
+use Rattle.laws.proofs.Lists.{drop-held, drop-taken}
+use Rattle.laws.proofs.Padded.{room-less, all-places, place-more, count-more, place-less, count-less, take-padded}
+use Rattle.laws.specs.Choice.{_or_}
+use Rattle.laws.specs.Lists.{padded}
+use Rattle.basics.specs.Bytes.{same}
+use Rattle.request_guard.specs.Guard.{Kept, sameSalt, spent, Valid, saltLimit, noSalt, remembered, salts, remembering, noFailures, withFailures, fresh, locked, failedAt, acceptedWith, guardAt}
 use Rattle.request_guard.specs.declared.Guard.{Guard}
 use Rattle.request_guard.specs.declared.Salt.{Salt}
+use Rattle.request_guard.specs.declared.SpentSalts.{SpentSalts}
 
 -- the two ways of the guard at a moment
 module _ (t : ℕ) (g : Guard) where
@@ -71,3 +77,80 @@ module _ (g : Guard) (v : Valid g) where
   clock-valid t =
       if-holds Valid (leb 300000 (t - g .failures .last .0))
       (record { few = v .few; whole = v .whole; bounded = omega arith; cleared = λ e. refl }) (λ e. v)
+
+-- ---- the spent salts
+
+-- what a read past the end of an array of salts gives
+abbrev pub nowhere : Salt
+nowhere = record { length = 0; bytes = [] }
+
+pub spent-step : (l : List Salt) (n i : ℕ) (s : Salt) → i < n → n ≤ length l
+    → spent (drop i (take n l)) s ≡ (sameSalt (getD l i nowhere) s or spent (drop (i + 1) (take n l)) s)
+spent-step l n i s h j = rw (drop-held l n i nowhere h j)
+
+pub spent-end : (l : List Salt) (n i : ℕ) (s : Salt) → n ≤ i → spent (drop i (take n l)) s ≡ false
+spent-end l n i s h = rw (drop-taken l n i h)
+
+-- salts of other lengths are others
+pub other-length : (a b : Salt) → (a .length ≡ b .length → ⊥) → false ≡ sameSalt a b
+other-length a b h = rw (ne-eqb (a .length) (b .length) h)
+
+pub same-length : (a b : Salt) → a .length ≡ b .length → same (a .bytes) (b .bytes) ≡ sameSalt a b
+same-length a b h = rw (eq-eqb (a .length) (b .length) h)
+
+pub kept-salts : (l : List Salt) → length l ≤ saltLimit → Kept (salts l)
+kept-salts l h = record { few = h; whole = salts-kept l }
+
+pub guard-kept : (g : Guard) → Valid g → Kept (g .spent)
+guard-kept g v = record { few = v .few; whole = v .whole }
+
+module _ (ss : SpentSalts) (v : Kept ss) where
+  places : ss .salts ≡ padded saltLimit noSalt (remembered ss)
+  places = ap (λ (x : SpentSalts). x .salts) (v .whole)
+
+  pub room : length (ss .salts) ≡ saltLimit
+  room = all-places saltLimit noSalt (ss .salts) (ss .count) (v .few) places
+
+  count-remembered : ss .count ≡ length (remembered ss)
+  count-remembered = ap (λ (x : SpentSalts). x .count) (v .whole)
+
+  -- what is copied from the second place on, of a full list
+  pub shifted : saltLimit ≤ ss .count
+      → _≡_ {A = SpentSalts} (record {
+        salts = paste (replicate saltLimit noSalt) 0 (drop 1 (ss .salts)) (saltLimit - 1);
+        count = saltLimit - 1;
+      })
+      (salts (drop 1 (remembered ss)))
+  shifted h =
+      λ i. record {
+        salts = place-less saltLimit noSalt (ss .salts) (ss .count) (v .few) places h i;
+        count = count-less saltLimit noSalt (ss .salts) (ss .count) (v .few) places h i;
+      }
+
+  -- a full list without its oldest salt has room
+  pub rest-kept : Kept (salts (drop 1 (remembered ss))) × (length (drop 1 (remembered ss)) < saltLimit)
+  rest-kept =
+      let size : length (drop 1 (remembered ss)) < saltLimit = room-less saltLimit noSalt (ss .salts)
+      (ss .count) (v .few) places (omega arith) in
+      (kept-salts (drop 1 (remembered ss)) (omega arith), size)
+
+-- the stores that put one salt more into a kept value
+pub pushed : (ss : SpentSalts) (s : Salt) → Kept ss → ss .count < saltLimit
+    → _≡_ {A = SpentSalts} (record { salts = set (ss .salts) (ss .count) s; count = ss .count + 1 })
+    (salts (remembered ss ++ (s ∷ [])))
+pushed ss s v h =
+    λ i. record {
+      salts = place-more saltLimit noSalt (ss .salts) (ss .count) (v .few) (places ss v) s h i;
+      count = count-more saltLimit noSalt (ss .salts) (ss .count) (v .few) (places ss v) s i;
+    }
+
+-- the two ways of an accepted salt
+module _ (ss : SpentSalts) (s : Salt) (v : Kept ss) where
+  pub remembering-full : saltLimit ≤ ss .count → drop 1 (remembered ss) ++ (s ∷ []) ≡ remembering
+      (remembered ss) s
+  unfolding remembering
+  remembering-full h = rw (le-leb saltLimit (length (remembered ss)) (rw (← count-remembered ss v) h))
+
+  pub remembering-room : ss .count < saltLimit → remembered ss ++ (s ∷ []) ≡ remembering (remembered ss) s
+  unfolding remembering
+  remembering-room h = rw (lt-leb saltLimit (length (remembered ss)) (rw (← count-remembered ss v) h))

@@ -29,6 +29,11 @@ remembered ss = take (ss .count) (ss .salts)
 abbrev pub salts : List Salt → SpentSalts
 salts l = record { salts = padded saltLimit noSalt l; count = length l }
 
+-- the value remembers a list of at most `saltLimit` salts, and nothing in the places that are not in use
+pub record Kept (ss : SpentSalts) : Type 0 where
+  pub few : ss .count ≤ saltLimit
+  pub whole : ss ≡ salts (remembered ss)
+
 -- "two are equal if length and bytes are"
 abbrev pub sameSalt : Salt → Salt → Bool
 sameSalt s u = eqb (s .length) (u .length) and same (s .bytes) (u .bytes)

@@ -1,10 +1,17 @@
 // What guards key-based writes: the last 16 accepted salts, and the failures that were counted (document 01).
 use basics::Moment;
 ghost use mathlib.Core.Path.{_≡_};
-ghost use Rattle.request_guard.specs.Guard.{fresh, noFailures, guardAt};
+ghost use mathlib.Core.List.{[], _∷_, _++_};
+ghost use Prim.Native.Nat.{_≤_, _<_};
+ghost use lib.ListN.{drop};
+ghost use Rattle.request_guard.specs.Guard as spec;
+ghost use Rattle.request_guard.specs.Guard.{Valid, Kept, saltLimit, salts, remembered, spent, remembering};
+ghost use Rattle.request_guard.specs.Guard.{fresh, noFailures, failedAt, acceptedWith, guardAt, sameSalt};
 
 // The most salts that are remembered.
 const LIMIT: usize = 16;
+// The salts that stay when one is forgotten.
+const LAST: usize = LIMIT - 1;
 
 // A request's salt: its first `length` bytes; the others are zero.
 pub struct Salt {
@@ -35,13 +42,7 @@ impl Guard {
         ensures { λ r. ⌜ r ≡ fresh ⌝ }
     {
         Guard {
-            spent: SpentSalts {
-                salts: [Salt {
-                    length: 0,
-                    bytes: [0u8; 8],
-                }; LIMIT],
-                count: 0,
-            },
+            spent: SpentSalts::none(),
             failures: Failures::none(),
         }
     }
@@ -57,6 +58,124 @@ impl Guard {
         self.failures = Failures::none();
         self
     }
+
+    // Ten failures were counted.
+    pub fn locked(self) -> bool
+        ensures { λ r. ⌜ r ≡ spec.locked self ⌝ }
+    {
+        self.failures.count == 10
+    }
+
+    // A request that no key fits.
+    pub fn failed(mut self, now: Moment) -> Guard
+        requires { ⌜ self .failures .count < 10 ⌝ }
+        ensures { λ r. ⌜ r ≡ failedAt (now .0) self ⌝ }
+    {
+        let more = Failures {
+            count: self.failures.count + 1,
+            last: now,
+        };
+        self.failures = more;
+        self
+    }
+
+    // A request with this salt was accepted before.
+    pub fn is_spent(self, salt: Salt) -> bool
+        requires { ⌜ Valid self ⌝ }
+        ensures { λ r. ⌜ r ≡ spent (remembered (self .spent)) salt ⌝ }
+    {
+        let salts = self.spent;
+        salts.holds(salt)
+    }
+
+    // A request that is accepted.
+    pub fn accepted(mut self, salt: Salt) -> Guard
+        requires { ⌜ Valid self ⌝ }
+        ensures { λ r. ⌜ r ≡ acceptedWith salt self ⌝ }
+    {
+        let salts = self.spent;
+        self.spent = salts.remember(salt);
+        self.failures = Failures::none();
+        self
+    }
+}
+
+impl SpentSalts {
+    fn none() -> SpentSalts
+        ensures { λ r. ⌜ r ≡ salts [] ⌝ }
+    {
+        SpentSalts {
+            salts: [Salt {
+                length: 0,
+                bytes: [0u8; 8],
+            }; LIMIT],
+            count: 0,
+        }
+    }
+
+    fn holds(self, salt: Salt) -> bool
+        requires { ⌜ Kept self ⌝ }
+        ensures { λ r. ⌜ r ≡ spent (remembered self) salt ⌝ }
+    {
+        let n = self.count;
+        let mut i = 0;
+        while i < n {
+            let s = self.salts[i];
+            if same_salt(s, salt) {
+                return true;
+            }
+            i += 1;
+        }
+        false
+    }
+
+    // The salts after one more: of sixteen, the oldest is forgotten.
+    fn remember(self, salt: Salt) -> SpentSalts
+        requires { ⌜ Kept self ⌝ }
+        ensures { λ r. ⌜ r ≡ salts (remembering (remembered self) salt) ⌝ }
+    {
+        let n = self.count;
+        if LIMIT <= n {
+            let rest = self.without_oldest();
+            return rest.push(salt);
+        }
+        self.push(salt)
+    }
+
+    // One salt more, last.
+    fn push(mut self, salt: Salt) -> SpentSalts
+        requires { ⌜ Kept self × (self .count < saltLimit) ⌝ }
+        ensures { λ r. ⌜ r ≡ salts (remembered self ++ (salt ∷ [])) ⌝ }
+    {
+        let n = self.count;
+        self.salts[n] = salt;
+        self.count = n + 1;
+        self
+    }
+
+    // The oldest salt removed from a full list.
+    fn without_oldest(self) -> SpentSalts
+        requires { ⌜ Kept self × (saltLimit ≤ self .count) ⌝ }
+        ensures { λ r. ⌜ r ≡ salts (drop 1 (remembered self)) ⌝ }
+    {
+        let mut rest = SpentSalts::none();
+        let mut i = 0;
+        while i < LAST {
+            rest.salts[i] = self.salts[i + 1];
+            i += 1;
+        }
+        rest.count = LAST;
+        rest
+    }
+}
+
+fn same_salt(a: Salt, b: Salt) -> bool
+    ensures { λ r. ⌜ r ≡ sameSalt a b ⌝ }
+{
+    if a.length != b.length {
+        return false;
+    }
+    basics::same(&a.bytes, &b.bytes)
 }
 
 impl Failures {

@@ -6,11 +6,12 @@ use lib.ListN.{length, drop, replicate}
 use lib.Seq.{paste}
 use borrow.Author.Needs.{needs}
 use Rattle.laws.proofs.Loops.{at-limit}
+use Rattle.laws.proofs.Padded.{shift-more}
 use Rattle.account_keys.specs.Keys.{limit, zeroKey}
 use Rattle.account_keys.specs.declared.AccountKeys.{AccountKeys}
 use Rattle.account_keys.proofs.AccountKeys.without_oldest.Tie as tie
 use Rattle.account_keys.proofs.AccountKeys.without_oldest.Statement.{statement}
-use Rattle.account_keys.proofs.Laws.{room, shifted, shift-more}
+use Rattle.account_keys.proofs.Laws.{nowhere, room, shifted}
 
 abbrev Inv-loop : tie.InvT-loop
 Inv-loop self rest₀ i₀ rest i =
@@ -28,7 +29,7 @@ loop-again c =
     (c .before .before .before .before .args .t1) (c .before .before .before .before .pre .0) in (
       search needs,
       shift-more (replicate limit zeroKey) (c .before .before .before .before .args .t1 .keys)
-          (c .before .before .loop .i) (c .before .before .loop .inv .1) (omega arith) (omega arith),
+          (c .before .before .loop .i) nowhere (c .before .before .loop .inv .1) (omega arith) (omega arith),
     )
 
 returns : tie.Need-returns Inv-loop μ-loop

@@ -1,0 +1,75 @@
+-- No key passed fits: the search through the rest, with their number, is the whole search.
+use mathlib.Core.Path.{_≡_, refl}
+use Prim.Native.Nat.{_≤_, _-_}
+use native.Mathlib.Omega.{arith}
+use borrow.Author.Needs.{needs}
+use Rattle.key_based.specs.Search.{noneFits}
+use Rattle.key_based.proofs.try_owners.Tie as tie
+use Rattle.key_based.proofs.Laws.{Passed, key-fits, key-passed, all-passed}
+use Rattle.key_based.proofs.try_owners.Statement.{statement}
+
+abbrev Inv-loop : tie.InvT-loop
+Inv-loop ble public block keys n last₀ i₀ last i =
+    (i ≤ n) × (n ≡ keys .count) × (last ≡ noneFits i) × Passed ble public block keys i
+
+abbrev μ-loop : tie.MeasureT-loop
+μ-loop ble public block keys n last₀ i₀ last i = n - i
+
+loop-holds : tie.Need-loop-holds Inv-loop μ-loop
+loop-holds c = (search needs, refl, c .none-fits .ensures, refl)
+
+cast-try-key : tie.Need-cast-try-key Inv-loop μ-loop
+cast-try-key c = omega (arith, c .before .before .before .before .before .pre .few)
+
+try-key-requires : tie.Need-try-key-requires Inv-loop μ-loop
+try-key-requires c κs = omega (arith, c .before .before .before .before .before .pre .few)
+
+loop-again : tie.Need-loop-again Inv-loop μ-loop
+loop-again c =
+    let p = key-passed (c .before .before .before .before .before .before .before .args .ble)
+    (c .before .before .before .before .before .before .before .args .public)
+    (c .before .before .before .before .before .before .before .args .block)
+    (c .before .before .before .before .before .before .before .args .t3)
+    (c .before .before .before .before .before .before .before .pre)
+    (c .before .before .before .before .before .loop .i)
+    (c .before .before .before .before .before .loop .inv .3)
+    (c .before .before .before .before .loop-test .taken)
+    (c .before .try-key .ensures) (c .if1 .left) in
+    (search needs, refl, p .0, p .1)
+
+returns : tie.Need-returns Inv-loop μ-loop
+returns c =
+    all-passed (c .before .before .before .args .ble) (c .before .before .before .args .public)
+    (c .before .before .before .args .block) (c .before .before .before .args .t3)
+    (c .before .before .before .pre) (c .before .loop .i) (c .before .loop .inv .3)
+    (c .loop-test .left) (c .before .loop .inv .2)
+
+returns-2 : tie.Need-returns-2 Inv-loop μ-loop
+returns-2 c =
+    key-fits (c .before .before .before .before .before .before .before .args .ble)
+    (c .before .before .before .before .before .before .before .args .public)
+    (c .before .before .before .before .before .before .before .args .block)
+    (c .before .before .before .before .before .before .before .args .t3)
+    (c .before .before .before .before .before .before .before .pre)
+    (c .before .before .before .before .before .loop .i)
+    (c .before .before .before .before .before .loop .inv .3)
+    (c .before .before .before .before .loop-test .taken)
+    (c .before .try-key .ensures) (c .if1 .taken)
+
+pub try-owners-spec : {M : Type 1} → statement M
+try-owners-spec =
+    tie.close
+    (tie.spec
+    Inv-loop
+    μ-loop
+    (λ c κs. search needs)
+    loop-holds
+    (λ c. search needs)
+    (λ c. search needs)
+    cast-try-key
+    try-key-requires
+    (λ c. search needs)
+    (λ c. search needs)
+    loop-again
+    returns
+    returns-2)
