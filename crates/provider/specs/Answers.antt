@@ -2,6 +2,7 @@
 -- Assumes nothing.
 use Prim.Native.Nat.{ℕ}
 use Rattle.key_based.specs.Request.{noBond}
+use Rattle.key_based.specs.declared.Bond.{Bond}
 use Rattle.provider.specs.declared.Answer.{Answer}
 use Rattle.provider.specs.declared.Answer.the-variants.{Taken, UnknownLink, WrongLength, PasskeyTooLarge, ClockWentBack, LockedOut, NotInPairingMode, NoKeyFits, SaltSpent, LinkIdle, WrongStage, CapabilityRefused, BadBlock, OutputTooShort, ListMalformed}
 use Rattle.provider.specs.declared.Confirm.{Confirm}
@@ -32,6 +33,10 @@ plain a = record { answer = a; tried = 0; bond = noBond; confirm = Unasked }
 -- an answer after n keys were tried
 abbrev pub afterTrying : ℕ → Answer → Reply
 afterTrying n a = record { answer = a; tried = n; bond = noBond; confirm = Unasked }
+
+-- the answer to an accepted request
+abbrev pub accepting : ℕ → Bond → Reply
+accepting n b = record { answer = Taken; tried = n; bond = b; confirm = Unasked }
 
 -- the answer to a passkey that was compared
 abbrev pub confirming : Confirm → Reply

@@ -5,11 +5,11 @@ use Prim.Native.Nat.{ℕ}
 use lib.Dec.{ltb}
 use Rattle.laws.specs.Choice.{if_then_else_}
 use Rattle.account_keys.specs.declared.AccountKeys.{AccountKeys}
-use Rattle.provider.specs.declared.Confirm.{Confirm}
 use Rattle.provider.specs.Answers.{plain, confirming}
 use Rattle.provider.specs.declared.Answer.{Answer}
 use Rattle.provider.specs.declared.Answer.the-variants.{Taken, ClockWentBack}
 use Rattle.provider.specs.declared.Beacon.{Beacon}
+use Rattle.provider.specs.declared.Confirm.{Confirm}
 use Rattle.provider.specs.declared.Device.{Device}
 use Rattle.provider.specs.declared.Outcome.{Outcome}
 use Rattle.provider.specs.declared.Reply.{Reply}
@@ -93,6 +93,9 @@ dropAt d l = withLink d l idle
 pub record Effect : Type 0 where
   pub gives : Outcome
   pub leaves : List ℕ
+
+abbrev pub outcome : Device → Reply → Outcome
+outcome d r = record { next = d; reply = r }
 
 -- an answer that hands out nothing
 abbrev pub given : Device → Answer → Outcome

@@ -9,10 +9,9 @@ use Rattle.laws.specs.Choice.{if_then_else_, _and_}
 use Rattle.account_keys.specs.Keys.{held}
 use Rattle.key_based.specs.Request.{hasPublicKey, sized, candidates, opened, fitting, Found, found, nothing, search, requestSalt, bondAsked, response}
 use Rattle.key_based.specs.declared.Element.{Element}
-use Rattle.provider.specs.Answers.{afterTrying}
+use Rattle.provider.specs.Answers.{afterTrying, accepting}
 use Rattle.provider.specs.Device.{Effect, replies, answers, inTime, withGuard, withLink}
-use Rattle.provider.specs.declared.Answer.the-variants.{Taken, UnknownLink, WrongLength, OutputTooShort, LockedOut, NotInPairingMode, NoKeyFits, SaltSpent}
-use Rattle.provider.specs.declared.Confirm.the-variants.{Unasked}
+use Rattle.provider.specs.declared.Answer.the-variants.{UnknownLink, WrongLength, OutputTooShort, LockedOut, NotInPairingMode, NoKeyFits, SaltSpent}
 use Rattle.provider.specs.declared.Device.{Device}
 use Rattle.request_guard.specs.Guard.{remembered, spent, locked, failedAt, acceptedWith}
 use Rattle.sessions.specs.declared.Session.{Session}
@@ -32,7 +31,7 @@ asked key t = record { stage = Asked; key = key; since = record { 0 = t }; passk
 unfoldable pub accepted : Device → ℕ → ℕ → ℕ → List ℕ → List ℕ → List ℕ → List ℕ → Effect
 accepted d l t place key plain salt out =
     replies (withLink (withGuard d (acceptedWith (requestSalt plain) (d .guard))) l (asked key t))
-    (record { answer = Taken; tried = place; bond = bondAsked plain; confirm = Unasked })
+    (accepting place (bondAsked plain))
     (response key (d .identity .public) salt ++ drop 16 out)
 
 -- answers 7 and 8

@@ -8,3 +8,4 @@ pub mod Kinds
 pub mod Table
 pub mod Demands
 pub mod Samples
+pub mod Steps

@@ -1,5 +1,6 @@
 // The Fast Pair provider: one method for each event of document 01. A device goes in by value, and the next one comes back.
 mod pairing;
+mod requests;
 
 use account_keys::AccountKeys;
 use account_keys::ListForm;

@@ -40,7 +40,19 @@ unfolding rule.passkeyWrite
 returns-3 c = (
   c .went-back .ensures ∙ rw
       (le-ltb 7 (c .before .before .before .before .before .before .before .before .before .before .args .link .0) (c .before .before .before .before .before .before .if1 .left), le-ltb (length (c .before .before .before .before .before .before .before .before .before .before .args .out .now)) 16 (c .before .before .before .before .before .if2 .left)) (sym (ap (λ (x : Effect). x .gives) (goes-back (c .before .before .before .before .before .before .before .before .before .before .args .self) (c .before .before .before .before .before .before .before .before .before .before .args .clock .0) (c .before .before .before .before .before .before .before .before .before .before .args .out .now) _ (c .before .if3 .taken)))),
-  rw (le-ltb 7 (c .before .before .before .before .before .before .before .before .before .before .args .link .0) (c .before .before .before .before .before .before .if1 .left), le-ltb (length (c .before .before .before .before .before .before .before .before .before .before .args .out .now)) 16 (c .before .before .before .before .before .if2 .left)) (sym (ap (λ (x : Effect). x .leaves) (goes-back (c .before .before .before .before .before .before .before .before .before .before .args .self) (c .before .before .before .before .before .before .before .before .before .before .args .clock .0) (c .before .before .before .before .before .before .before .before .before .before .args .out .now) _ (c .before .if3 .taken)))),
+  rw (
+    le-ltb 7
+        (c .before .before .before .before .before .before .before .before .before .before .args .link .0)
+        (c .before .before .before .before .before .before .if1 .left),
+    le-ltb
+        (length (c .before .before .before .before .before .before .before .before .before .before .args .out .now))
+        16 (c .before .before .before .before .before .if2 .left),
+  ) (sym
+      (ap (λ (x : Effect). x .leaves)
+      (goes-back (c .before .before .before .before .before .before .before .before .before .before .args .self)
+      (c .before .before .before .before .before .before .before .before .before .before .args .clock .0)
+      (c .before .before .before .before .before .before .before .before .before .before .args .out .now) _
+      (c .before .if3 .taken)))),
 )
 
 returns-4 : tie.Need-returns-4
@@ -49,10 +61,13 @@ returns-4 c = (
   c .before .before .prove-passkey .ensures .0 ∙ rw (
     le-ltb 7
         (c .before .before .before .before .before .before .before .before .before .before .before .before .before .before .args .link .0) (c .before .before .before .before .before .before .before .before .before .before .if1 .left),
-    le-ltb (length (c .before .before .before .before .before .before .before .before .before .before .before .before .before .before .args .out .now)) 16 (c .before .before .before .before .before .before .before .before .before .if2 .left),
+    le-ltb (length
+        (c .before .before .before .before .before .before .before .before .before .before .before .before .before .before .args .out .now)) 16 (c .before .before .before .before .before .before .before .before .before .if2 .left),
     c .before .before .before .before .clock-step .ensures,
-  ) (sym (ap (λ (x : Effect). x .gives) (goes-on (c .before .before .before .before .before .before .before .before .before .before .before .before .before .before .args .self) (c .before .before .before .before .before .before .before .before .before .before .before .before .before .before .args .clock .0) (c .before .before .before .before .before .before .before .before .before .before .before .before .before .before .args .out .now) _ (c .before .before .before .before .before .if3 .left)))),
-  c .before .before .prove-passkey .ensures .1 ∙ rw (le-ltb 7 (c .before .before .before .before .before .before .before .before .before .before .before .before .before .before .args .link .0) (c .before .before .before .before .before .before .before .before .before .before .if1 .left), le-ltb (length (c .before .before .before .before .before .before .before .before .before .before .before .before .before .before .args .out .now)) 16 (c .before .before .before .before .before .before .before .before .before .if2 .left), c .before .before .before .before .clock-step .ensures) (sym (ap (λ (x : Effect). x .leaves) (goes-on (c .before .before .before .before .before .before .before .before .before .before .before .before .before .before .args .self) (c .before .before .before .before .before .before .before .before .before .before .before .before .before .before .args .clock .0) (c .before .before .before .before .before .before .before .before .before .before .before .before .before .before .args .out .now) _ (c .before .before .before .before .before .if3 .left)))),
+  ) (sym (ap (λ (x : Effect). x .gives)
+      (goes-on (c .before .before .before .before .before .before .before .before .before .before .before .before .before .before .args .self) (c .before .before .before .before .before .before .before .before .before .before .before .before .before .before .args .clock .0) (c .before .before .before .before .before .before .before .before .before .before .before .before .before .before .args .out .now) _ (c .before .before .before .before .before .if3 .left)))),
+  c .before .before .prove-passkey .ensures .1 ∙ rw
+      (le-ltb 7 (c .before .before .before .before .before .before .before .before .before .before .before .before .before .before .args .link .0) (c .before .before .before .before .before .before .before .before .before .before .if1 .left), le-ltb (length (c .before .before .before .before .before .before .before .before .before .before .before .before .before .before .args .out .now)) 16 (c .before .before .before .before .before .before .before .before .before .if2 .left), c .before .before .before .before .clock-step .ensures) (sym (ap (λ (x : Effect). x .leaves) (goes-on (c .before .before .before .before .before .before .before .before .before .before .before .before .before .before .args .self) (c .before .before .before .before .before .before .before .before .before .before .before .before .before .before .args .clock .0) (c .before .before .before .before .before .before .before .before .before .before .before .before .before .before .args .out .now) _ (c .before .before .before .before .before .if3 .left)))),
 )
 
 pub passkey-write-spec : {M : Type 1} → statement M
