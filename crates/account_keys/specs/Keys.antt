@@ -39,7 +39,7 @@ stored l k =
     if leb limit (length l) then drop 1 l ++ (k ∷ []) else
     l ++ (k ∷ [])
 
--- "every key starts with 0x04", "no key twice"
+-- not "a key not starting with 0x04, a key twice"
 unfoldable pub owned : List AccountKey → Bool
 owned [] = true
 owned (k ∷ ks) = eqb (getD (k .bytes) 0 0) 0x04 and not (member ks k) and owned ks

@@ -1,20 +1,20 @@
 -- What is proved of the stored list besides the functions' contracts: proofs/ReadBack.antt.
 -- Assumes nothing.
-use mathlib.Core.Path.{_≡_}
 use mathlib.Core.List.{List}
+use mathlib.Core.Path.{_≡_}
 use Prim.Native.Nat.{ℕ, _<_}
-use Rattle.laws.specs.Lists.{All}
 use lib.ListN.{getD}
+use Rattle.laws.specs.Lists.{All}
+use Rattle.account_keys.specs.Keys.{Valid, Sized, held, kept, stored}
+use Rattle.account_keys.specs.StoredList.{writing, reading}
 use Rattle.account_keys.specs.declared.AccountKey.{AccountKey}
 use Rattle.account_keys.specs.declared.AccountKeys.{AccountKeys}
 use Rattle.account_keys.specs.declared.ListForm.the-variants.{WellFormed}
-use Rattle.account_keys.specs.declared.Reading.{Reading}
-use Rattle.account_keys.specs.Keys.{Valid, Sized, held, kept, stored}
-use Rattle.account_keys.specs.StoredList.{writing, reading}
 
 -- "The stored list reads back as it was written."
 abbrev pub ReadsBack : Type 0
-ReadsBack = (ks : AccountKeys) → Valid ks → reading (writing (held ks)) ≡ record { form = WellFormed; keys = ks }
+ReadsBack =
+    (ks : AccountKeys) → Valid ks → reading (writing (held ks)) ≡ record { form = WellFormed; keys = ks }
 
 -- a list that reads is the writing of what it reads as, and that is valid
 abbrev pub OnlyWritings : Type 0
@@ -25,4 +25,5 @@ OnlyWritings =
 -- an account key write keeps the list valid
 abbrev pub StoresValid : Type 0
 StoresValid =
-    (ks : AccountKeys) (k : AccountKey) → Valid ks → Sized k → getD (k .bytes) 0 0 ≡ 0x04 → Valid (kept (stored (held ks) k))
+    (ks : AccountKeys) (k : AccountKey) → Valid ks → Sized k → getD (k .bytes) 0 0 ≡ 0x04 → Valid
+    (kept (stored (held ks) k))

@@ -7,12 +7,12 @@ use lib.Dec.{leb, eqb}
 use lib.ListN.{length, getD}
 use Rattle.laws.specs.BigEndian.{bytes, number2}
 use Rattle.laws.specs.Choice.{if_then_else_, _and_}
-use Rattle.basics.specs.Bytes.{sixteenAt}
+use Rattle.account_keys.specs.Keys.{limit, kept, owned}
 use Rattle.account_keys.specs.declared.AccountKey.{AccountKey}
 use Rattle.account_keys.specs.declared.ListForm.{ListForm}
 use Rattle.account_keys.specs.declared.ListForm.the-variants.{WellFormed, Malformed}
 use Rattle.account_keys.specs.declared.Reading.{Reading}
-use Rattle.account_keys.specs.Keys.{limit, kept, owned}
+use Rattle.basics.specs.Bytes.{sixteenAt}
 
 -- document 01's numbers: 0 "taken", 14 "stored list malformed"
 abbrev pub formNumber : ListForm → ℕ

@@ -1,17 +1,15 @@
 -- Document 01, "The device and its events": links, stages and their timers.
 -- Assumes nothing.
-use mathlib.Core.Path.{_≡_}
 use mathlib.Core.Bool.{Bool, true, false}
-use mathlib.Core.List.{List, [], map}
-use Prim.Native.Nat.{ℕ, _-_, _<_}
+use mathlib.Core.List.{[], map}
+use Prim.Native.Nat.{ℕ, _-_}
 use lib.Dec.{leb, eqb}
-use lib.ListN.{length, getD, set, replicate}
+use lib.ListN.{getD, set, replicate}
 use Rattle.laws.specs.Choice.{if_then_else_, _and_}
-use Rattle.laws.specs.Lists.{All}
-use Rattle.sessions.specs.declared.Stage.{Stage}
-use Rattle.sessions.specs.declared.Stage.the-variants.{Idle, Asked, Pairing, Confirming, Proved, Paired}
 use Rattle.sessions.specs.declared.Session.{Session}
 use Rattle.sessions.specs.declared.Sessions.{Sessions}
+use Rattle.sessions.specs.declared.Stage.{Stage}
+use Rattle.sessions.specs.declared.Stage.the-variants.{Idle, Asked, Pairing, Confirming, Proved, Paired}
 
 -- "Eight links, 0 to 7"
 abbrev pub linkCount : ℕ
