@@ -10,9 +10,11 @@ ghost use Rattle.basics.specs.Output as output;
 pub struct Link(pub u8);
 
 // A moment of the device's clock, in milliseconds.
+#[repr(C)]
 pub struct Moment(pub u64);
 
 // A Bluetooth address, in the order in which a request names it.
+#[repr(C)]
 pub struct Address {
     pub bytes: [u8; 6],
 }

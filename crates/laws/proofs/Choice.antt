@@ -18,6 +18,11 @@ pub if-holds {ℓ} : {A : Type ℓ} (P : A → Type 0) (b : Bool) {x y : A} → 
 if-holds P true p q = p
 if-holds P false p q = q refl
 
+-- a choice whose first branch, where it is taken, is the second
+pub if-same {ℓ} : {A : Type ℓ} (b : Bool) {x y : A} → (b ≡ true → x ≡ y) → (if b then x else y) ≡ y
+if-same true e = e refl
+if-same false e = refl
+
 pub or-false : (a b : Bool) → (a or b) ≡ false → b ≡ false
 or-false true b e = absurd (true-is (sym e))
 or-false false b e = e

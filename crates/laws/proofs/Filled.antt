@@ -1,11 +1,12 @@
 -- Loops that fill an array place by place: the first i of its n places have what a rule f gives.
 -- Assumes nothing.
-use mathlib.Core.List.{List, [], _∷_}
+use mathlib.Core.List.{List, [], _∷_, _++_}
 use mathlib.Core.Path.{_≡_, refl, sym, _∙_, ap}
 use Prim.Native.Nat.{ℕ, zero, suc, _+_, _<_, _≤_}
 use native.Mathlib.Nat.{le-of-suc-le-suc, not-suc-le-zero}
+use native.Mathlib.Numerals.{add-one}
 use native.Mathlib.Omega.{arith}
-use lib.ListN.{length, getD, set, length-set}
+use lib.ListN.{length, take, getD, set, length-set}
 use lib.Seq.{ext-getD, getD-set-same, getD-set-other}
 use borrow.Author.Count.{below-more}
 use Rattle.laws.specs.Tabulate.{tabulate}
@@ -33,6 +34,21 @@ tabulate-getD (x ∷ l) d = ap (λ t. x ∷ t) (tabulate-getD l d)
 -- a list whose places are written out
 pub listed : {A : Type 0} (n : ℕ) (l : List A) (d : A) → length l ≡ n → tabulate n (λ i. getD l i d) ≡ l
 listed n l d e = rw (← e) (tabulate-getD l d)
+
+tabulate-suc : {A : Type 0} (n : ℕ) (f : ℕ → A) → tabulate (suc n) f ≡ tabulate n f ++ (f n ∷ [])
+tabulate-suc zero f = refl
+tabulate-suc (suc n) f = ap (λ l. f zero ∷ l) (tabulate-suc n (λ k. f (suc k)))
+
+-- one place more, at the end
+pub tabulate-more : {A : Type 0} (n : ℕ) (f : ℕ → A) → tabulate (n + 1) f ≡ tabulate n f ++ (f n ∷ [])
+tabulate-more n f = rw add-one (tabulate-suc n f)
+
+-- the first places of a list, read one by one
+pub tabulate-take : {A : Type 0} (n : ℕ) (l : List A) (d : A) → n ≤ length l → tabulate n (λ i. getD l i d)
+    ≡ take n l
+tabulate-take zero l d h = refl
+tabulate-take (suc n) [] d h = absurd (not-suc-le-zero h)
+tabulate-take (suc n) (x ∷ l) d h = ap (λ t. x ∷ t) (tabulate-take n l d (le-of-suc-le-suc h))
 
 -- what holds of each value, and of the value past the end, holds at every place
 pub tabulate-all : {A : Type 0} (P : A → Type 0) (n : ℕ) (f : ℕ → A) (d : A)

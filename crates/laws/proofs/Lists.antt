@@ -34,6 +34,12 @@ drop-replicate (suc k) (suc n) a = drop-replicate k n a ∙ rw suc-sub-suc
 pub take-rest {ℓ} : {A : Type ℓ} (k : ℕ) (l : List A) → take (length l - k) (drop k l) ≡ drop k l
 take-rest k l = take-all (length l - k) (drop k l) (simp length-drop (le-refl (length l - k)))
 
+-- within a list nothing is read of the value past its end
+pub same-read {ℓ} : {A : Type ℓ} (l : List A) (i : ℕ) (y z : A) → i < length l → getD l i y ≡ getD l i z
+same-read [] i y z h = absurd (not-suc-le-zero h)
+same-read (x ∷ l) zero y z h = refl
+same-read (x ∷ l) (suc i) y z h = same-read l i y z (le-of-suc-le-suc h)
+
 -- one element more of what is left
 pub drop-more {ℓ} : {A : Type ℓ} (l : List A) (i : ℕ) (z : A) → i < length l → drop i l ≡ getD l i z ∷ drop
     (i + 1) l

@@ -7,7 +7,9 @@ use native.Mathlib.Omega.{arith}
 use lib.ListN.{length, take, drop, set, getD, replicate, length-append, length-drop, length-replicate, length-take}
 use lib.Seq.{set-append-seam, append-snoc, take-append-seam, take-all, length-take-le, getD-drop, paste}
 use Rattle.laws.specs.Lists.{padded}
-use Rattle.laws.proofs.Lists.{paste-more, drop-replicate}
+use Rattle.laws.specs.Tabulate.{tabulate}
+use Rattle.laws.proofs.Filled.{length-tabulate, tabulate-more}
+use Rattle.laws.proofs.Lists.{paste-more, drop-replicate, same-read}
 
 module _ {ℓ} {A : Type ℓ} (n : ℕ) (z : A) where
   pub length-padded : (l : List A) → length l ≤ n → length (padded n z l) ≡ n
@@ -71,3 +73,15 @@ shift-more d l i z {r} e h k =
     paste-more d 0 (drop 1 l) i z e below inside
     in
     rw (value, place) at m
+
+-- a turn of a loop that copies the front of l into a room where nothing is in use
+pub front-more : {A : Type 0} (n : ℕ) (z : A) (l : List A) (i : ℕ) (d : A) {r : List A}
+    → r ≡ padded n z (tabulate i (λ k. getD l k z))
+    → i < n → i < length l → set r i (getD l i d) ≡ padded n z (tabulate (i + 1) (λ k. getD l k z))
+front-more {A = A} n z l i d {r} e h k =
+    let t : List A = tabulate i (λ k. getD l k z) in
+    let size : length t ≡ i = length-tabulate i (λ k. getD l k z) in
+    ap (λ (x : List A). set x i (getD l i d)) e
+    ∙ ap₂ (λ (j : ℕ) (x : A). set (padded n z t) j x) (sym size) (same-read l i d z k)
+    ∙ set-padded n z t (getD l i z) (omega (arith, size)) ∙ ap (padded n z)
+    (sym (tabulate-more i (λ k. getD l k z)))

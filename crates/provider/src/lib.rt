@@ -61,6 +61,7 @@ pub struct Reply {
 }
 
 // What power-on fixes.
+#[repr(C)]
 pub struct Identity {
     pub public: Address,
     pub model: [u8; 3],
@@ -83,6 +84,7 @@ pub struct Device {
 }
 
 // What power-on is given besides the stored list.
+#[repr(C)]
 pub struct Start {
     pub identity: Identity,
     pub ble: Address,

@@ -1,21 +1,23 @@
 -- Laws of the guard.
 -- Assumes nothing.
-use mathlib.Core.Bool.{false}
+use mathlib.Core.Bool.{true, false}
 use mathlib.Core.List.{[], _∷_, _++_, List}
-use mathlib.Core.Path.{_≡_, refl, sym, ap}
+use mathlib.Core.Path.{_≡_, refl, sym, ap, _∙_}
 use Prim.Native.Nat.{_+_, ℕ, _-_, _≤_, _<_}
 use native.Mathlib.Omega.{arith}
-use lib.Dec.{leb}
+use lib.Dec.{leb, eqb}
 use lib.ListN.{take, drop, set, getD, replicate, length, length-append, length-drop, length-take}
 use lib.Seq.{paste}
-use borrow.Author.Tests.{eq-eqb, ne-eqb, le-leb, lt-leb, leb-false, eqb-false}
-use Rattle.laws.proofs.Choice.{if-holds}
+use borrow.Author.Tests.{eq-eqb, ne-eqb, le-leb, lt-leb, leb-true, leb-false, eqb-true, eqb-false}
+use Rattle.laws.proofs.Choice.{if-holds, if-same, and-left, and-right}
+use Rattle.laws.proofs.Filled.{length-tabulate, tabulate-take}
 use Rattle.laws.proofs.Lists.{drop-held, drop-taken}
 use Rattle.laws.proofs.Padded.{room-less, all-places, place-more, count-more, place-less, count-less, take-padded}
 use Rattle.laws.specs.Choice.{_or_}
 use Rattle.laws.specs.Lists.{padded}
 use Rattle.basics.specs.Bytes.{same}
-use Rattle.request_guard.specs.Guard.{Kept, sameSalt, spent, Valid, saltLimit, noSalt, remembered, salts, remembering, noFailures, withFailures, fresh, locked, failedAt, acceptedWith, guardAt}
+use Rattle.request_guard.specs.Guard.{Kept, sameSalt, spent, Valid, saltLimit, noSalt, remembered, salts, remembering, noFailures, withFailures, fresh, locked, failedAt, acceptedWith, guardAt, bounded, inUse, cleaned}
+use Rattle.request_guard.specs.declared.Failures.{Failures}
 use Rattle.request_guard.specs.declared.Guard.{Guard}
 use Rattle.request_guard.specs.declared.Salt.{Salt}
 use Rattle.request_guard.specs.declared.SpentSalts.{SpentSalts}
@@ -154,3 +156,45 @@ module _ (ss : SpentSalts) (s : Salt) (v : Kept ss) where
   pub remembering-room : ss .count < saltLimit → remembered ss ++ (s ∷ []) ≡ remembering (remembered ss) s
   unfolding remembering
   remembering-room h = rw (lt-leb saltLimit (length (remembered ss)) (rw (← count-remembered ss v) h))
+
+-- ---- a guard of any bytes
+
+pub bounded-few : (g : Guard) → bounded g ≡ true → g .spent .count ≤ saltLimit
+bounded-few g b =
+    leb-true (g .spent .count) saltLimit
+    (and-left (leb (g .spent .count) saltLimit) (leb (g .failures .count) 10) b)
+
+bounded-failures : (g : Guard) → bounded g ≡ true → g .failures .count ≤ 10
+bounded-failures g b =
+    leb-true (g .failures .count) 10
+    (and-right (leb (g .spent .count) saltLimit) (leb (g .failures .count) 10) b)
+
+pub cleaned-valid : (g : Guard) → bounded g ≡ true → Valid (cleaned g)
+cleaned-valid g b =
+    let size : length (inUse (g .spent)) ≡ g .spent .count = length-tabulate (g .spent .count)
+    (λ i. getD (g .spent .salts) i noSalt) in
+    let few : length (inUse (g .spent)) ≤ saltLimit = omega (arith, size, bounded-few g b) in
+    record {
+      few = few;
+      whole = salts-kept (inUse (g .spent));
+      bounded = if-holds (λ (f : Failures). f .count ≤ 10) (eqb (g .failures .count) 0) (omega arith)
+          (λ e. bounded-failures g b);
+      cleared = if-holds (λ (f : Failures). f .count ≡ 0 → f ≡ noFailures) (eqb (g .failures .count) 0)
+          (λ h. refl)
+          (λ e h. absurd (eqb-false (g .failures .count) 0 e h));
+    }
+
+pub valid-bounded : (g : Guard) → Valid g → bounded g ≡ true
+valid-bounded g v =
+    rw (le-leb (g .spent .count) saltLimit (v .few), le-leb (g .failures .count) 10 (v .bounded))
+
+pub valid-cleaned : (g : Guard) → Valid g → cleaned g ≡ g
+valid-cleaned g v =
+    let long : length (g .spent .salts) ≡ saltLimit = room (g .spent) (guard-kept g v) in
+    let same : inUse (g .spent) ≡ remembered (g .spent) = tabulate-take (g .spent .count)
+    (g .spent .salts) noSalt (omega (arith, v .few)) in
+    λ i. record {
+      spent = (ap salts same ∙ sym (v .whole)) i;
+      failures = if-same (eqb (g .failures .count) 0)
+          (λ e. sym (v .cleared (eqb-true (g .failures .count) 0 e))) i;
+    }

@@ -5,9 +5,10 @@ use mathlib.Core.List.{List, [], _∷_, _++_}
 use mathlib.Core.Path.{_≡_}
 use Prim.Native.Nat.{ℕ, _+_, _-_, _≤_}
 use lib.Dec.{leb, eqb}
-use lib.ListN.{length, take, drop, replicate}
+use lib.ListN.{length, take, drop, getD, replicate}
 use Rattle.laws.specs.Choice.{if_then_else_, _and_, _or_}
 use Rattle.laws.specs.Lists.{padded}
+use Rattle.laws.specs.Tabulate.{tabulate}
 use Rattle.basics.specs.Bytes.{same}
 use Rattle.request_guard.specs.declared.Failures.{Failures}
 use Rattle.request_guard.specs.declared.Guard.{Guard}
@@ -78,3 +79,19 @@ pub record Valid (g : Guard) : Type 0 where
   pub whole : g .spent ≡ salts (remembered (g .spent))
   pub bounded : g .failures .count ≤ 10
   pub cleared : g .failures .count ≡ 0 → g .failures ≡ noFailures
+
+-- counts that a guard can have
+abbrev pub bounded : Guard → Bool
+bounded g = leb (g .spent .count) saltLimit and leb (g .failures .count) 10
+
+-- the first `count` salts; what stands behind them is left out
+abbrev pub inUse : SpentSalts → List Salt
+inUse ss = tabulate (ss .count) (λ i. getD (ss .salts) i noSalt)
+
+-- a guard whose unused places are zero, whatever they held
+abbrev pub cleaned : Guard → Guard
+cleaned g =
+    record {
+      spent = salts (inUse (g .spent));
+      failures = if eqb (g .failures .count) 0 then noFailures else g .failures;
+    }

@@ -1,12 +1,16 @@
 // What guards key-based writes: the last 16 accepted salts, and the failures that were counted (document 01).
 use basics::Moment;
+ghost use mathlib.Core.Bool.{true};
 ghost use mathlib.Core.Path.{_≡_};
 ghost use mathlib.Core.List.{[], _∷_, _++_};
 ghost use Prim.Native.Nat.{_≤_, _<_};
 ghost use lib.ListN.{drop};
+ghost use lib.Dec.{eqb};
+ghost use Rattle.laws.specs.Choice.{if_then_else_};
 ghost use Rattle.request_guard.specs.Guard as spec;
 ghost use Rattle.request_guard.specs.Guard.{Valid, Kept, saltLimit, salts, remembered, spent, remembering};
 ghost use Rattle.request_guard.specs.Guard.{fresh, noFailures, failedAt, acceptedWith, guardAt, sameSalt};
+ghost use Rattle.request_guard.specs.Guard.{bounded, inUse};
 
 // The most salts that are remembered.
 const LIMIT: usize = 16;
@@ -14,23 +18,27 @@ const LIMIT: usize = 16;
 const LAST: usize = LIMIT - 1;
 
 // A request's salt: its first `length` bytes; the others are zero.
+#[repr(C)]
 pub struct Salt {
     pub length: u8,
     pub bytes: [u8; 8],
 }
 
 // The salts of the last accepted requests, oldest first: the first `count`; the other places are zero.
+#[repr(C)]
 pub struct SpentSalts {
     pub salts: [Salt; LIMIT],
     pub count: usize,
 }
 
 // How many requests in a row found no fitting key, and when the last one came; zero while the count is 0.
+#[repr(C)]
 pub struct Failures {
     pub count: u8,
     pub last: Moment,
 }
 
+#[repr(C)]
 pub struct Guard {
     pub spent: SpentSalts,
     pub failures: Failures,
@@ -97,6 +105,26 @@ impl Guard {
         self.spent = salts.remember(salt);
         self.failures = Failures::none();
         self
+    }
+
+    // Whether its counts are such as a guard can have: only bytes from elsewhere have others.
+    pub fn is_bounded(self) -> bool
+        ensures { λ r. ⌜ r ≡ bounded self ⌝ }
+    {
+        self.spent.count <= LIMIT && self.failures.count <= 10
+    }
+
+    // The guard with nothing in the places that are not in use.
+    pub fn cleaned(self) -> Guard
+        requires { ⌜ bounded self ≡ true ⌝ }
+        ensures { λ r. ⌜ r ≡ spec.cleaned self ⌝ }
+    {
+        let salts = self.spent;
+        let failures = self.failures;
+        Guard {
+            spent: salts.in_use(),
+            failures: failures.in_use(),
+        }
     }
 }
 
@@ -167,6 +195,22 @@ impl SpentSalts {
         rest.count = LAST;
         rest
     }
+
+    // The salts in use, and nothing in the other places.
+    fn in_use(self) -> SpentSalts
+        requires { ⌜ self .count ≤ saltLimit ⌝ }
+        ensures { λ r. ⌜ r ≡ salts (inUse self) ⌝ }
+    {
+        let mut rest = SpentSalts::none();
+        let n = self.count;
+        let mut i = 0;
+        while i < n {
+            rest.salts[i] = self.salts[i];
+            i += 1;
+        }
+        rest.count = n;
+        rest
+    }
 }
 
 fn same_salt(a: Salt, b: Salt) -> bool
@@ -186,5 +230,15 @@ impl Failures {
             count: 0,
             last: Moment(0),
         }
+    }
+
+    // The failures counted; with none there is no moment.
+    fn in_use(self) -> Failures
+        ensures { λ r. ⌜ r ≡ (if eqb (self .count) 0 then noFailures else self) ⌝ }
+    {
+        if self.count == 0 {
+            return Failures::none();
+        }
+        self
     }
 }

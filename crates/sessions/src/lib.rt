@@ -131,7 +131,8 @@ fn timed(stage: Stage) -> bool
     }
 }
 
-fn number(stage: Stage) -> u8
+// The number of a stage, as it is compared and handed to C.
+pub fn number(stage: Stage) -> u8
     ensures { λ r. ⌜ r ≡ stageNumber stage ⌝ }
 {
     match stage {
