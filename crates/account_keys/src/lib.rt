@@ -168,7 +168,8 @@ pub fn read(src: &[u8]) -> Reading
     read_keys(src, n)
 }
 
-fn malformed() -> Reading
+// What a list that can't be read is read as.
+pub fn malformed() -> Reading
     ensures { λ r. ⌜ r ≡ noReading ⌝ }
 {
     Reading {

@@ -18,6 +18,7 @@ pub struct Element {
 }
 
 // The address that a seeker asks to be bonded with, if it asks; else zero.
+#[repr(C)]
 pub struct Bond {
     pub wanted: bool,
     pub address: Address,

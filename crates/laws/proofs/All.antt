@@ -5,6 +5,7 @@ use Prim.Native.Nat.{ℕ, zero, suc, _<_}
 use native.Mathlib.Nat.{le-of-suc-le-suc, not-suc-le-zero}
 use lib.ListN.{length, take, drop, getD, set, replicate}
 use Rattle.laws.specs.Lists.{All}
+use Rattle.laws.specs.Tabulate.{tabulate}
 
 module _ {ℓ} {A : Type ℓ} (P : A → Type 0) where
   pub all-get : (l : List A) → All P l → (i : ℕ) (z : A) → i < length l → P (getD l i z)
@@ -42,3 +43,7 @@ module _ {ℓ} {A : Type ℓ} (P : A → Type 0) where
 pub all-map {ℓ} : {A : Type ℓ} (P Q : A → Type 0) → ((a : A) → P a → Q a) → (l : List A) → All P l → All Q l
 all-map P Q f [] p = tt
 all-map P Q f (x ∷ xs) p = (f x (p .0), all-map P Q f xs (p .1))
+
+pub all-tabulate : {A : Type 0} (P : A → Type 0) (n : ℕ) (f : ℕ → A) → ((i : ℕ) → P (f i)) → All P (tabulate n f)
+all-tabulate P zero f p = tt
+all-tabulate P (suc n) f p = (p zero, all-tabulate P n (λ i. f (suc i)) (λ i. p (suc i)))

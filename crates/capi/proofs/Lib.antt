@@ -1,0 +1,4 @@
+pub mod Laws
+pub mod Links
+pub mod ReadsBack
+pub mod StoredKeys

@@ -1,0 +1,25 @@
+-- Field by field.
+use borrow.Author.Needs.{needs}
+use Rattle.capi.specs.Plain.{plain}
+use Rattle.capi.proofs.pack.pack.Statement.{statement}
+use Rattle.capi.proofs.pack.pack.Tie as tie
+
+returns : tie.Need-returns
+unfolding plain
+returns c =
+    let a = c .before .before .before .before .before .before .before .before .before .before .args in
+    λ i. record {
+      clock = (a .device .clock .0);
+      sessions = c .before .before .pack-links .ensures i;
+      guard = (a
+          .device .guard);
+      stored = c .before .pack-keys .ensures i;
+      identity = (a .device .identity);
+      ble = (a .device
+          .beacon .ble);
+      salt = (a .device .beacon .salt);
+      pairing = c .flag .ensures i;
+    }
+
+pub pack-spec : {M : Type 1} → statement M
+pack-spec = tie.close (tie.spec (λ c κs. search needs) (λ c κs. search needs) (λ c κs. search needs) returns)

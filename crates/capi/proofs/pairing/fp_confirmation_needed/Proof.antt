@@ -1,0 +1,42 @@
+-- The rule is served on the device that was read, or the bytes come back.
+use borrow.Author.Tests.{not-true, not-false}
+use borrow.Author.Needs.{needs}
+use Rattle.provider.specs.Pairing.{confirmationNeeded}
+use Rattle.provider.specs.Event.{ConfirmationNeeded}
+use Rattle.capi.proofs.Laws.{read-valid, next-valid, serves, comes-back}
+use Rattle.capi.proofs.pairing.fp_confirmation_needed.Statement.{statement}
+use Rattle.capi.proofs.pairing.fp_confirmation_needed.Tie as tie
+
+returns : tie.Need-returns
+returns c =
+    let a = c .before .before .before .before .args in
+    comes-back (a .device) (c .before .before .before .unpack .ensures) (λ d. confirmationNeeded d (a .link) (a
+    .clock) (a .passkey)) (not-true _ (c .before .if1 .taken)) (c .returned .ensures)
+
+confirmation-needed-requires : tie.Need-confirmation-needed-requires
+confirmation-needed-requires c κs =
+    read-valid (c .before .before .before .before .args .device) (c .before .before .before .unpack .ensures)
+
+pack-outcome-requires : tie.Need-pack-outcome-requires
+pack-outcome-requires c κs =
+    let a = c .before .before .before .before .before .args in
+    next-valid (a .device) (c .before .before .before .before .unpack .ensures) (ConfirmationNeeded (a .link) (a
+    .clock) (a .passkey)) (c .confirmation-needed .ensures)
+
+returns-2 : tie.Need-returns-2
+returns-2 c =
+    let a = c .before .before .before .before .before .before .args in
+    serves (a .device) (c .before .before .before .before .before .unpack .ensures) (λ d. confirmationNeeded d (a
+    .link) (a .clock) (a .passkey)) (not-false _ (c .before .before .before .if1 .left)) (c .before
+    .confirmation-needed .ensures) (c .pack-outcome .ensures)
+
+pub fp-confirmation-needed-spec : {M : Type 1} → statement M
+fp-confirmation-needed-spec =
+    tie.close
+    (tie.spec
+    (λ c κs. search needs)
+    (λ c κs. search needs)
+    returns
+    confirmation-needed-requires
+    pack-outcome-requires
+    returns-2)

@@ -1,0 +1,54 @@
+-- Each number in its turn.
+use mathlib.Core.Path.{sym, _∙_}
+use borrow.Author.Needs.{needs}
+use Rattle.capi.proofs.Links.{asked, pairing, confirming, proved, paired, no-stage}
+use Rattle.capi.proofs.unpack.session_of.Statement.{statement}
+use Rattle.capi.proofs.unpack.session_of.Tie as tie
+
+returns : tie.Need-returns
+returns c = (c .held-in .ensures) ∙ sym (asked (c .before .before .args .from) (c .before .if1 .taken))
+
+returns-2 : tie.Need-returns-2
+returns-2 c =
+    (c .held-in2 .ensures) ∙ sym (pairing (c .before .before .before .args .from) (c .before .before .if1 .left)
+    (c .before .if2 .taken))
+
+returns-3 : tie.Need-returns-3
+returns-3 c =
+    (c .held-in3 .ensures) ∙ sym (confirming (c .before .before .before .before .args .from) (c .before .before
+    .before .if1 .left) (c .before .before .if2 .left) (c .before .if3 .taken))
+
+returns-4 : tie.Need-returns-4
+returns-4 c =
+    (c .held-in4 .ensures) ∙ sym (proved (c .before .before .before .before .before .args .from) (c .before
+    .before .before .before .if1 .left) (c .before .before .before .if2 .left) (c .before .before .if3 .left) (c
+    .before .if4 .taken))
+
+returns-5 : tie.Need-returns-5
+returns-5 c =
+    (c .held-in5 .ensures) ∙ sym (paired (c .before .before .before .before .before .before .args .from) (c
+    .before .before .before .before .before .if1 .left) (c .before .before .before .before .if2 .left) (c .before
+    .before .before .if3 .left) (c .before .before .if4 .left) (c .before .if5 .taken))
+
+returns-6 : tie.Need-returns-6
+returns-6 c =
+    (c .idle .ensures) ∙ sym (no-stage (c .before .before .before .before .before .before .args .from) (c .before
+    .before .before .before .before .if1 .left) (c .before .before .before .before .if2 .left) (c .before .before
+    .before .if3 .left) (c .before .before .if4 .left) (c .before .if5 .left))
+
+pub session-of-spec : {M : Type 1} → statement M
+session-of-spec =
+    tie.close
+    (tie.spec
+    (λ c κs. search needs)
+    returns
+    (λ c κs. search needs)
+    returns-2
+    (λ c κs. search needs)
+    returns-3
+    (λ c κs. search needs)
+    returns-4
+    (λ c κs. search needs)
+    returns-5
+    (λ c κs. search needs)
+    returns-6)

@@ -1,0 +1,114 @@
+// Power-on, the marker, links, pairing mode, rotation and reset, for C.
+use crate::FpDevice;
+use crate::FpOutcome;
+use crate::pack;
+use crate::unpack;
+use basics::Address;
+use basics::Link;
+use basics::Moment;
+use provider::Device;
+use provider::Start;
+ghost use mathlib.Core.Path.{_≡_};
+ghost use lib.Dec.{eqb};
+ghost use mathlib.Core.Bool.{not};
+ghost use Rattle.capi.specs.Calls.{served};
+ghost use Rattle.capi.specs.Plain.{plain};
+ghost use Rattle.provider.specs.Control as rule;
+
+// The value before any device was made.
+#[no_mangle]
+pub extern "C" fn fp_off() -> FpDevice
+    ensures { λ r. ⌜ r ≡ plain rule.off ⌝ }
+{
+    pack::pack(Device::off())
+}
+
+#[no_mangle]
+pub extern "C" fn fp_power_on(device: FpDevice, stored: &[u8], start: Start) -> FpOutcome
+    ensures { λ r. ⌜ r ≡ served device (λ d. rule.powerOn d (now (stored .entry)) start) ⌝ }
+{
+    let from = unpack::unpack(device);
+    if !from.known {
+        return pack::returned(device);
+    }
+    let d = from.device;
+    pack::pack_outcome(d.power_on(stored, start))
+}
+
+#[no_mangle]
+pub extern "C" fn fp_overflow(device: FpDevice) -> FpOutcome
+    ensures { λ r. ⌜ r ≡ served device (λ d. rule.overflow d) ⌝ }
+{
+    let from = unpack::unpack(device);
+    if !from.known {
+        return pack::returned(device);
+    }
+    let d = from.device;
+    pack::pack_outcome(d.overflow())
+}
+
+#[no_mangle]
+pub extern "C" fn fp_link_up(device: FpDevice, link: u8, clock: u64) -> FpOutcome
+    ensures { λ r. ⌜ r ≡ served device (λ d. rule.linkChanged d link clock) ⌝ }
+{
+    let from = unpack::unpack(device);
+    if !from.known {
+        return pack::returned(device);
+    }
+    let d = from.device;
+    pack::pack_outcome(d.link_up(Link(link), Moment(clock)))
+}
+
+#[no_mangle]
+pub extern "C" fn fp_link_down(device: FpDevice, link: u8, clock: u64) -> FpOutcome
+    ensures { λ r. ⌜ r ≡ served device (λ d. rule.linkChanged d link clock) ⌝ }
+{
+    let from = unpack::unpack(device);
+    if !from.known {
+        return pack::returned(device);
+    }
+    let d = from.device;
+    pack::pack_outcome(d.link_down(Link(link), Moment(clock)))
+}
+
+// `on` is 0 for off, and any other number for on.
+#[no_mangle]
+pub extern "C" fn fp_pairing_mode(device: FpDevice, on: u8, clock: u64) -> FpOutcome
+    ensures { λ r. ⌜ r ≡ served device (λ d. rule.pairingMode d (not (eqb on 0)) clock) ⌝ }
+{
+    let from = unpack::unpack(device);
+    if !from.known {
+        return pack::returned(device);
+    }
+    let d = from.device;
+    pack::pack_outcome(d.pairing_mode(on != 0, Moment(clock)))
+}
+
+#[no_mangle]
+pub extern "C" fn fp_address_rotated(
+    device: FpDevice,
+    ble: Address,
+    salt: &[u8; 2],
+    clock: u64,
+) -> FpOutcome
+    ensures { λ r. ⌜ r ≡ served device (λ d. rule.addressRotated d ble (now (salt .entry)) clock) ⌝ }
+{
+    let from = unpack::unpack(device);
+    if !from.known {
+        return pack::returned(device);
+    }
+    let d = from.device;
+    pack::pack_outcome(d.address_rotated(ble, *salt, Moment(clock)))
+}
+
+#[no_mangle]
+pub extern "C" fn fp_factory_reset(device: FpDevice, clock: u64) -> FpOutcome
+    ensures { λ r. ⌜ r ≡ served device (λ d. rule.factoryReset d clock) ⌝ }
+{
+    let from = unpack::unpack(device);
+    if !from.known {
+        return pack::returned(device);
+    }
+    let d = from.device;
+    pack::pack_outcome(d.factory_reset(Moment(clock)))
+}

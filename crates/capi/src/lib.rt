@@ -1,0 +1,78 @@
+// What C firmware links: one exported function for each event, over plain structs by value. include/fastpair.h is their
+// page for C. A device that C hands in may be any bytes: `unpack` tells whether a device has them.
+mod asking;
+mod control;
+mod pack;
+mod pairing;
+mod requests;
+mod unpack;
+
+use basics::Address;
+use key_based::Bond;
+use provider::Device;
+use provider::Identity;
+use request_guard::Guard;
+
+// One link: the number of its stage, 0 for idle, and what it holds.
+#[repr(C)]
+pub struct FpSession {
+    pub since: u64,
+    pub passkey: u32,
+    pub stage: u8,
+    pub key: [u8; 16],
+}
+
+// The account keys as the stored list, of which the first `length` bytes are in use.
+#[repr(C)]
+pub struct FpStored {
+    pub length: usize,
+    pub bytes: [u8; 84],
+}
+
+// A device in plain numbers.
+#[repr(C)]
+pub struct FpDevice {
+    pub clock: u64,
+    pub sessions: [FpSession; 8],
+    pub guard: Guard,
+    pub stored: FpStored,
+    pub identity: Identity,
+    pub ble: Address,
+    pub salt: [u8; 2],
+    pub pairing: u8,
+}
+
+// All that an answer hands out; `confirm` is 0 where the radio is asked nothing, 1 for yes, 2 for no.
+#[repr(C)]
+pub struct FpReply {
+    pub answer: u8,
+    pub tried: u8,
+    pub confirm: u8,
+    pub bond: Bond,
+}
+
+#[repr(C)]
+pub struct FpOutcome {
+    pub next: FpDevice,
+    pub reply: FpReply,
+}
+
+// What became of a text that goes to a lent output, and how many bytes were written.
+#[repr(C)]
+pub struct FpReport {
+    pub answer: u8,
+    pub length: usize,
+}
+
+// What the secure element made of the public key in an 80-byte request; `accepted` is 0 for a rejected point.
+#[repr(C)]
+pub struct FpElement {
+    pub accepted: u8,
+    pub secret: [u8; 32],
+}
+
+// What was handed in, read as a device; `device` is `off` where no device has these bytes.
+pub struct Unpacked {
+    pub known: bool,
+    pub device: Device,
+}

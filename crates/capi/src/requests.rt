@@ -1,0 +1,45 @@
+// The key-based write, for C.
+use crate::FpDevice;
+use crate::FpElement;
+use crate::FpOutcome;
+use crate::pack;
+use crate::unpack;
+use basics::Link;
+use basics::Moment;
+use key_based::Element;
+ghost use mathlib.Core.Path.{_≡_};
+ghost use Rattle.capi.specs.Calls.{served, lentBack};
+ghost use Rattle.capi.specs.Plain.{elementOf};
+ghost use Rattle.provider.specs.KeyBased as rule;
+
+#[no_mangle]
+pub extern "C" fn fp_key_based_write(
+    device: FpDevice,
+    link: u8,
+    clock: u64,
+    request: &[u8],
+    element: FpElement,
+    salt: &[u8; 9],
+    out: &mut [u8],
+) -> FpOutcome
+    ensures { λ r. ⌜ r ≡ served device (λ d. rule.keyBasedWrite d link clock (now (request .entry)) (elementOf element) (now (salt .entry)) (now (out .entry))) ⌝ }
+    ensures { λ r. ⌜ now (out .exit) ≡ lentBack device (λ d. rule.keyBasedWrite d link clock (now (request .entry)) (elementOf element) (now (salt .entry)) (now (out .entry))) (now (out .entry)) ⌝ }
+{
+    let from = unpack::unpack(device);
+    if !from.known {
+        return pack::returned(device);
+    }
+    let d = from.device;
+    let point = read_element(element);
+    pack::pack_outcome(d.key_based_write(Link(link), Moment(clock), request, point, *salt, out))
+}
+
+fn read_element(element: FpElement) -> Element
+    ensures { λ r. ⌜ r ≡ elementOf element ⌝ }
+{
+    let secret = element.secret;
+    Element {
+        accepted: element.accepted != 0,
+        secret: secret,
+    }
+}

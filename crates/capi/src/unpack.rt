@@ -1,0 +1,164 @@
+// Any bytes that C hands in, read as a device.
+use crate::FpDevice;
+use crate::FpSession;
+use crate::FpStored;
+use crate::Unpacked;
+use account_keys::AccountKeys;
+use account_keys::ListForm;
+use account_keys::Reading;
+use basics::Moment;
+use provider::Beacon;
+use provider::Device;
+use sessions::Session;
+use sessions::Sessions;
+use sessions::Stage;
+ghost use mathlib.Core.Bool.{true, false};
+ghost use mathlib.Core.Path.{_≡_};
+ghost use Rattle.capi.specs.Plain as spec;
+ghost use Rattle.capi.specs.Plain.{isDevice, deviceOf};
+ghost use Rattle.provider.specs.Control.{off};
+
+pub fn unpack(from: FpDevice) -> Unpacked
+    ensures { λ r. ⌜ r ≡ record { known = isDevice from; device = deviceOf from } ⌝ }
+{
+    let stored = from.stored;
+    let list = list_of(stored);
+    let form = list.form;
+    if !is_well_formed(form) {
+        return no_device();
+    }
+    if !numbers_known(from) {
+        return no_device();
+    }
+    let keys = list.keys;
+    Unpacked {
+        known: true,
+        device: with_keys(from, keys),
+    }
+}
+
+fn no_device() -> Unpacked
+    ensures { λ r. ⌜ r ≡ record { known = false; device = off } ⌝ }
+{
+    Unpacked {
+        known: false,
+        device: Device::off(),
+    }
+}
+
+fn numbers_known(from: FpDevice) -> bool
+    ensures { λ r. ⌜ r ≡ spec.numbersKnown from ⌝ }
+{
+    let guard = from.guard;
+    if !guard.is_bounded() {
+        return false;
+    }
+    let sessions = from.sessions;
+    if !stages_known(sessions) {
+        return false;
+    }
+    from.pairing <= 1
+}
+
+fn with_keys(from: FpDevice, keys: AccountKeys) -> Device
+    requires { ⌜ spec.numbersKnown from ≡ true ⌝ }
+    ensures { λ r. ⌜ r ≡ spec.withKeysOf from keys ⌝ }
+{
+    let guard = from.guard;
+    let sessions = from.sessions;
+    let identity = from.identity;
+    let ble = from.ble;
+    let salt = from.salt;
+    Device {
+        clock: Moment(from.clock),
+        keys: keys,
+        sessions: links_of(sessions),
+        guard: guard.cleaned(),
+        identity: identity,
+        beacon: Beacon {
+            ble: ble,
+            salt: salt,
+            pairing: from.pairing == 1,
+        },
+    }
+}
+
+fn list_of(stored: FpStored) -> Reading
+    ensures { λ r. ⌜ r ≡ spec.listOf stored ⌝ }
+{
+    let n = stored.length;
+    if 84 < n {
+        return account_keys::malformed();
+    }
+    let bytes = stored.bytes;
+    account_keys::read(&bytes[..n])
+}
+
+fn is_well_formed(form: ListForm) -> bool
+    ensures { λ r. ⌜ r ≡ spec.isWellFormed form ⌝ }
+{
+    match form {
+        ListForm::WellFormed => true,
+        ListForm::Malformed => false,
+    }
+}
+
+fn links_of(from: [FpSession; 8]) -> Sessions
+    ensures { λ r. ⌜ r ≡ spec.linksOf from ⌝ }
+{
+    let mut sessions = Sessions::all_idle();
+    let mut i = 0;
+    while i < 8 {
+        let session = from[i];
+        sessions.links[i] = session_of(session);
+        i += 1;
+    }
+    sessions
+}
+
+fn stages_known(from: [FpSession; 8]) -> bool
+    ensures { λ r. ⌜ r ≡ spec.stagesKnown from ⌝ }
+{
+    let mut i = 0;
+    while i < 8 {
+        if 5 < from[i].stage {
+            return false;
+        }
+        i += 1;
+    }
+    true
+}
+
+fn session_of(from: FpSession) -> Session
+    ensures { λ r. ⌜ r ≡ spec.sessionOf from ⌝ }
+{
+    let n = from.stage;
+    if n == 1 {
+        return held_in(from, Stage::Asked);
+    }
+    if n == 2 {
+        return held_in(from, Stage::Pairing);
+    }
+    if n == 3 {
+        return held_in(from, Stage::Confirming);
+    }
+    if n == 4 {
+        return held_in(from, Stage::Proved);
+    }
+    if n == 5 {
+        return held_in(from, Stage::Paired);
+    }
+    Session::idle()
+}
+
+fn held_in(from: FpSession, stage: Stage) -> Session
+    ensures { λ r. ⌜ r ≡ spec.heldIn from stage ⌝ }
+{
+    let key = from.key;
+    Session {
+        stage: stage,
+        key: key,
+        since: Moment(from.since),
+        passkey: from.passkey,
+    }
+}

@@ -1,0 +1,245 @@
+/* The Fast Pair provider core, for C firmware.
+ *
+ * Link with libcapi.a (`rt staticlib capi` makes it). The core keeps nothing of its own: no heap, no globals, no locks.
+ * All state is in an fp_device, which you hold and hand in by value; every event gives back the next one. Keep that,
+ * drop the old one:
+ *
+ *     fp_device device = fp_off();
+ *     fp_outcome o = fp_power_on(device, list, list_length, start);
+ *     device = o.next;
+ *     if (o.reply.answer != FP_TAKEN) ...
+ *
+ * You check nothing first. Any bytes, any length, any link number and any clock get one answer, and a refusal writes
+ * nothing to lent memory. What the rules are is document 01; that these functions keep them is proved.
+ *
+ * Memory: every pointer is lent for the call alone, and nothing is kept of it. A pointer with a length may be anything if
+ * the length is 0. An output overlaps no input of the same call. A pointer to a fixed number of bytes, as salt[9], points
+ * to that many.
+ */
+#ifndef FASTPAIR_H
+#define FASTPAIR_H
+
+#include <stdbool.h>
+#include <stddef.h>
+#include <stdint.h>
+
+#ifdef __cplusplus
+extern "C" {
+#endif
+
+/* ---- answers: document 01's numbers, and one of this interface */
+enum {
+    FP_TAKEN = 0,
+    FP_UNKNOWN_LINK = 1,        /* link above 7; nothing changes */
+    FP_WRONG_LENGTH = 2,        /* key-based write not 16 or 80 bytes; nothing changes */
+    FP_PASSKEY_TOO_LARGE = 3,   /* our passkey above 999,999; nothing changes */
+    FP_CLOCK_WENT_BACK = 4,     /* clock below the stored clock; every link's key is dropped, the clock stays */
+    FP_LOCKED_OUT = 5,          /* ten failures were counted, the last less than 300,000 ms ago */
+    FP_NOT_IN_PAIRING_MODE = 6, /* 80 bytes while pairing mode is off */
+    FP_NO_KEY_FITS = 7,         /* no candidate fits; one more failure is counted */
+    FP_SALT_SPENT = 8,          /* a key fits, and the request's salt is one of the last 16 */
+    FP_LINK_IDLE = 9,           /* a pairing, passkey or account key event on an idle link */
+    FP_WRONG_STAGE = 10,        /* the link is in another stage than this event needs; its key is dropped */
+    FP_CAPABILITY_REFUSED = 11, /* capability 3 or above 4; the link's key is dropped */
+    FP_BAD_BLOCK = 12,          /* block not 16 bytes, or another first byte; the link's key is dropped */
+    FP_OUTPUT_TOO_SHORT = 13,   /* the lent output is too short; nothing changes */
+    FP_LIST_MALFORMED = 14,     /* stored list malformed; the device handed in comes back */
+    FP_NOT_A_DEVICE = 255       /* the fp_device handed in is none; it comes back as it was, nothing is written */
+};
+
+/* ---- stages of a link */
+enum {
+    FP_STAGE_IDLE = 0,
+    FP_STAGE_ASKED = 1,
+    FP_STAGE_PAIRING = 2,
+    FP_STAGE_CONFIRMING = 3,
+    FP_STAGE_PROVED = 4,
+    FP_STAGE_PAIRED = 5
+};
+
+/* what the radio is to do with the passkey */
+enum { FP_CONFIRM_UNASKED = 0, FP_CONFIRM_YES = 1, FP_CONFIRM_NO = 2 };
+
+enum { FP_LINKS = 8, FP_MAX_KEYS = 5, FP_MAX_SALTS = 16, FP_RESPONSE_SIZE = 16 };
+
+/* the longest stored list (five keys), and the longest advertisement (five keys): outputs of these sizes always do */
+enum { FP_STORED_LIST_MAX = 84, FP_ADVERTISEMENT_MAX = 18 };
+
+/* ---- types */
+
+/* A Bluetooth address, in the order in which a request names it. */
+typedef struct {
+    uint8_t bytes[6];
+} fp_address;
+
+/* A request's salt: its first `length` bytes, 2 or 8. */
+typedef struct {
+    uint8_t length;
+    uint8_t bytes[8];
+} fp_salt;
+
+/* The salts of the last accepted requests, oldest first. */
+typedef struct {
+    fp_salt salts[FP_MAX_SALTS];
+    size_t count;
+} fp_spent_salts;
+
+/* Requests in a row that no key fitted, and the last one's moment. */
+typedef struct {
+    uint8_t count;
+    uint64_t last;
+} fp_failures;
+
+typedef struct {
+    fp_spent_salts spent;
+    fp_failures failures;
+} fp_guard;
+
+/* One link: the moment its stage began, our passkey while it is to be confirmed, its stage and its session key. An idle
+ * link has zeros: a dropped key is gone from memory. */
+typedef struct {
+    uint64_t since;
+    uint32_t passkey;
+    uint8_t stage;
+    uint8_t key[16];
+} fp_session;
+
+/* The owners' account keys as the stored list, ready to be saved: the first `length` bytes. */
+typedef struct {
+    size_t length;
+    uint8_t bytes[FP_STORED_LIST_MAX];
+} fp_stored;
+
+/* What power-on fixes. */
+typedef struct {
+    fp_address public_address;
+    uint8_t model[3];
+} fp_identity;
+
+/* A device: read it as you like, hand it in as you got it. Bytes that no device has are refused with FP_NOT_A_DEVICE; the
+ * bytes of places that are not in use do not count, and come back as zeros. */
+typedef struct {
+    uint64_t clock;
+    fp_session sessions[FP_LINKS];
+    fp_guard guard;
+    fp_stored stored;
+    fp_identity identity;
+    fp_address ble;
+    uint8_t salt[2];
+    uint8_t pairing;
+} fp_device;
+
+/* What power-on is given besides the stored list. */
+typedef struct {
+    fp_identity identity;
+    fp_address ble;
+    uint8_t salt[2];
+} fp_start;
+
+/* The address that a seeker asks to be bonded with, if it asks; else zeros. */
+typedef struct {
+    bool wanted;
+    fp_address address;
+} fp_bond;
+
+/* All that an answer hands out. `tried` is the number of account keys (or the one shared key) that were tried. */
+typedef struct {
+    uint8_t answer;
+    uint8_t tried;
+    uint8_t confirm;
+    fp_bond bond;
+} fp_reply;
+
+typedef struct {
+    fp_device next;
+    fp_reply reply;
+} fp_outcome;
+
+/* FP_TAKEN and the number of bytes written, or FP_OUTPUT_TOO_SHORT (or FP_NOT_A_DEVICE) and 0. */
+typedef struct {
+    uint8_t answer;
+    size_t length;
+} fp_report;
+
+/* What the secure element made of the public key in an 80-byte request: its secret, or a rejected point (accepted 0). A
+ * 16-byte request never reads it. */
+typedef struct {
+    uint8_t accepted;
+    uint8_t secret[32];
+} fp_element;
+
+/* The archive's layout on x86-64, where alone it links: a compiler that lays these out otherwise stops here. */
+#if defined(__cplusplus)
+#define FP_LAYOUT(what) static_assert(what, #what)
+#else
+#define FP_LAYOUT(what) _Static_assert(what, #what)
+#endif
+FP_LAYOUT(sizeof(fp_session) == 32 && offsetof(fp_session, key) == 13);
+FP_LAYOUT(sizeof(fp_guard) == 168 && offsetof(fp_guard, failures) == 152);
+FP_LAYOUT(sizeof(fp_stored) == 96 && offsetof(fp_stored, bytes) == 8);
+FP_LAYOUT(sizeof(fp_device) == 552 && offsetof(fp_device, guard) == 264 && offsetof(fp_device, pairing) == 545);
+FP_LAYOUT(sizeof(fp_start) == 17 && sizeof(fp_element) == 33 && sizeof(fp_bond) == 7);
+FP_LAYOUT(sizeof(fp_reply) == 10 && sizeof(fp_outcome) == 568 && sizeof(fp_report) == 16);
+#undef FP_LAYOUT
+
+/* ---- power-on and what concerns no single link */
+
+/* The value before any device was made: all zeros and an empty list. */
+fp_device fp_off(void);
+
+/* Starts from the stored list as fp_stored_list wrote it. FP_TAKEN or FP_LIST_MALFORMED. */
+fp_outcome fp_power_on(fp_device device, const uint8_t *stored, size_t stored_length, fp_start start);
+
+/* Events were lost: every link's key is dropped. Send it whenever your event queue overflowed. Always FP_TAKEN. */
+fp_outcome fp_overflow(fp_device device);
+
+/* `on` is 0 for off, and any other number for on. */
+fp_outcome fp_pairing_mode(fp_device device, uint8_t on, uint64_t clock);
+
+/* A new BLE address, and with it the new salt of the advertised filter. */
+fp_outcome fp_address_rotated(fp_device device, fp_address ble, const uint8_t salt[2], uint64_t clock);
+
+/* Forgets the owners' keys, the spent salts, the failures and every link's key. Save the stored list afterwards. */
+fp_outcome fp_factory_reset(fp_device device, uint64_t clock);
+
+/* ---- events on a link; `clock` is in milliseconds and never goes back while the device is on */
+
+fp_outcome fp_link_up(fp_device device, uint8_t link, uint64_t clock);
+fp_outcome fp_link_down(fp_device device, uint8_t link, uint64_t clock);
+
+/* A write to the key-based pairing characteristic. With FP_TAKEN the response's 16 bytes stand at the front of `out`. */
+fp_outcome fp_key_based_write(fp_device device, uint8_t link, uint64_t clock, const uint8_t *request,
+                              size_t request_length, fp_element element, const uint8_t salt[9], uint8_t *out,
+                              size_t out_length);
+
+/* The phone asked to pair; `capability` is its IO capability byte. */
+fp_outcome fp_pairing_started(fp_device device, uint8_t link, uint64_t clock, uint8_t capability);
+
+/* The radio has a passkey to compare: ours. */
+fp_outcome fp_confirmation_needed(fp_device device, uint8_t link, uint64_t clock, uint32_t passkey);
+
+/* A write to the passkey characteristic. With FP_TAKEN the response's 16 bytes stand at the front of `out`, and
+ * reply.confirm tells the radio yes or no. */
+fp_outcome fp_passkey_write(fp_device device, uint8_t link, uint64_t clock, const uint8_t *block, size_t block_length,
+                            const uint8_t salt[12], uint8_t *out, size_t out_length);
+
+/* `success` is 0 for a pairing that failed, and any other number for one that succeeded. */
+fp_outcome fp_pairing_ended(fp_device device, uint8_t link, uint64_t clock, uint8_t success);
+
+/* A write to the account key characteristic. With FP_TAKEN save the stored list: next.stored has it. */
+fp_outcome fp_account_key_write(fp_device device, uint8_t link, uint64_t clock, const uint8_t *block,
+                                size_t block_length);
+
+/* ---- questions: they change nothing and need no clock */
+
+/* The advertising data, one AD structure; `hide` is 0 to show the pairing prompt, and any other number to hide it. */
+fp_report fp_advertisement(fp_device device, uint8_t hide, uint8_t *out, size_t out_length);
+
+/* The stored list, for memory that lasts. */
+fp_report fp_stored_list(fp_device device, uint8_t *out, size_t out_length);
+
+#ifdef __cplusplus
+}
+#endif
+
+#endif
