@@ -1,0 +1,67 @@
+"""What the benchmarks share: commands that must succeed, and the instructions that callgrind counts."""
+import collections
+import pathlib
+import re
+import shutil
+import subprocess
+import sys
+
+ROOT = pathlib.Path(__file__).resolve().parent.parent
+FOLDER = ROOT / "target" / "bench"
+ARCHIVES = ROOT / "target" / "staticlib"
+
+# Turns of the two counted runs: start-up cancels in their difference.
+FEW, MANY = 10, 510
+
+
+def install_missing():
+    missing = [] if shutil.which("valgrind") else ["valgrind"]
+    if not pathlib.Path("/usr/include/bearssl.h").exists():
+        missing.append("libbearssl-dev")
+    if missing:
+        run(["apt-get", "update"])
+        run(["apt-get", "install", "-y", *missing])
+
+
+# The program of bench/NAME.c, linked with one of our archives and with BearSSL's.
+def compiled(name, archive):
+    FOLDER.mkdir(parents=True, exist_ok=True)
+    program = FOLDER / name
+    run(["cc", "-O2", "-Wall", "-o", program, ROOT / "bench" / f"{name}.c", ARCHIVES / archive, "-l:libbearssl.a"])
+    return program
+
+
+# What one turn costs: all of it under "", and each function with all that it calls under its name.
+def per_turn(command):
+    few, many = (collected([*command, str(count)]) for count in (FEW, MANY))
+    return {name: (many[name] - few[name]) / (MANY - FEW) for name in many}
+
+
+# The instructions of a whole run, from callgrind's file.
+def collected(command):
+    file = FOLDER / "callgrind.out"
+    run(["valgrind", "--tool=callgrind", f"--callgrind-out-file={file}", *command])
+    lines = file.read_text().split("\n")
+    costs = inclusive(lines)
+    costs[""] = int(next(line for line in lines if line.startswith("totals:")).split()[1])
+    return costs
+
+
+# Callgrind names a called function ("cfn=(number) name", the name only the first time), and two lines on what it cost.
+def inclusive(lines):
+    names, costs = {}, collections.Counter()
+    for at, line in enumerate(lines):
+        named = re.match(r"c?fn=\((\d+)\)(?: (.*))?", line)
+        if named and named[2]:
+            names[named[1]] = named[2]
+        if named and line.startswith("cfn"):
+            calls = next(i for i in range(at, len(lines)) if lines[i].startswith("calls="))
+            costs[names[named[1]]] += int(lines[calls + 1].split()[-1])
+    return costs
+
+
+def run(command):
+    done = subprocess.run([str(word) for word in command], cwd=ROOT, capture_output=True, text=True)
+    if done.returncode:
+        sys.exit(f"{' '.join(map(str, command))} failed:\n{done.stdout}{done.stderr}")
+    return done.stdout
