@@ -1,0 +1,1 @@
+"""The built library beside the reference, event by event."""

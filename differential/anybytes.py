@@ -1,0 +1,120 @@
+"""Any bytes as a device: some get 255, and those in places that are not in use don't count."""
+
+from collections import Counter
+from random import Random
+
+from reference import events
+from reference.events import Reply
+
+from . import faults
+from .compare import Difference
+from .lent import Spoiled
+from .view import unlike, values
+
+NOT_A_DEVICE = 255
+
+
+def one_of_each(random, clock):
+    """An event of every kind, with random bytes."""
+    link, data = random.randrange(8), random.randbytes
+    out, size = data(random.randrange(16, 40)), random.choice((16, 80))
+    return (
+        events.Overflow(),
+        events.LinkUp(link, clock),
+        events.LinkDown(link, clock),
+        events.PairingMode(random.random() < 0.5, clock),
+        events.AddressRotated(data(6), data(2), clock),
+        events.PowerOn(bytes((0, 2, 1, 0)), data(6), data(6), data(3), data(2)),
+        events.FactoryReset(clock),
+        events.KeyBasedWrite(link, clock, data(size), True, data(32), data(9), out),
+        events.PairingStarted(link, clock, 1),
+        events.ConfirmationNeeded(link, clock, 123_456),
+        events.PasskeyWrite(link, clock, data(16), data(12), out),
+        events.PairingEnded(link, clock, random.random() < 0.5),
+        events.AccountKeyWrite(link, clock, data(16)),
+    )
+
+
+class AnyBytes:
+    """Spoils devices of a run and hands them to every function."""
+
+    def __init__(self, library, seed):
+        self.library = library
+        self.random = Random(seed)
+        self.tried = Counter()
+
+    def check(self, device, event):
+        """The first difference of this device, or None; the event is the run's next one."""
+        kinds = (event, *one_of_each(self.random, device.clock))
+        try:
+            return (
+                self.refused(device, kinds)
+                or self.ignored(device, kinds)
+                or self.answered(device, kinds)
+            )
+        except Spoiled as spoiled:
+            return Difference("any bytes: memory or reply", "", str(spoiled))
+
+    def never_tried(self):
+        names = [fault.__name__ for fault in (*faults.NO_DEVICE, *faults.NOT_IN_USE)]
+        return [name for name in names if not self.tried[name]]
+
+    def refused(self, device, kinds):
+        """ "refused with FP_NOT_A_DEVICE"; "it comes back as it was, nothing is written" """
+        fault = self.random.choice(faults.NO_DEVICE)
+        spoiled = faults.copy(device)
+        fault(self.random, spoiled)
+        self.tried[fault.__name__] += 1
+        for event in kinds:
+            expected = values(spoiled), Reply(NOT_A_DEVICE, out=getattr(event, "out", b""))
+            found = self.step(spoiled, event)
+            if expected != found:
+                return differs(fault, event, spoiled, expected, found)
+        out = self.random.randbytes(self.random.randrange(90))
+        expected = [(NOT_A_DEVICE, 0, out)] * 3
+        found = self.questions(spoiled, out)
+        return None if expected == found else differs(fault, "questions", spoiled, expected, found)
+
+    def ignored(self, device, kinds):
+        """ "the bytes of places that are not in use do not count, and come back as zeros" """
+        place = self.random.choice(faults.NOT_IN_USE)
+        spoiled = faults.copy(device)
+        if not place(self.random, spoiled):
+            return None
+        self.tried[place.__name__] += 1
+        for event in kinds:
+            expected, found = self.step(device, event), self.step(spoiled, event)
+            if expected != found:
+                return differs(place, event, spoiled, expected, found)
+        out = self.random.randbytes(self.random.randrange(90))
+        expected, found = self.questions(device, out), self.questions(spoiled, out)
+        return None if expected == found else differs(place, "questions", spoiled, expected, found)
+
+    def answered(self, device, kinds):
+        """ "Any bytes .. get one answer": one of the table, and what comes back is a device."""
+        odd = faults.copy(device)
+        faults.any_numbers(self.random, odd)
+        for event in kinds:
+            after, reply = self.library.step(odd, event)
+            _, again = self.library.step(after, events.Overflow())
+            if reply.answer > 14 or again.answer != 0:
+                return differs(faults.any_numbers, event, odd, "an answer up to 14", reply)
+        return None
+
+    def step(self, device, event):
+        after, reply = self.library.step(device, event)
+        return values(after), reply
+
+    def questions(self, device, out):
+        """The stored list and both forms of the payload."""
+        ask = self.library.advertisement
+        return [self.library.stored_list(device, out), ask(device, 0, out), ask(device, 1, out)]
+
+
+def differs(fault, event, device, expected, found):
+    """The difference, with the device's bytes."""
+    what = f"any bytes: {fault.__name__}, {event!r}, device {bytes(device).hex()}"
+    if isinstance(expected, tuple):
+        ours, theirs = unlike(expected[0], found[0])
+        return Difference(what, (ours, expected[1]), (theirs, found[1]))
+    return Difference(what, expected, found)

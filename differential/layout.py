@@ -1,0 +1,63 @@
+"""Whether the C compiler lays the header's structs out as the bindings do."""
+
+import re
+import subprocess
+from ctypes import sizeof
+
+from .paths import FOLDER, HEADER, compiler
+from .structs import BY_NAME
+
+NUMBERS = {
+    "FP_LINKS": 8,
+    "FP_MAX_SALTS": 16,
+    "FP_STORED_LIST_MAX": 84,
+    "FP_ADVERTISEMENT_MAX": 18,
+    "FP_NOT_A_DEVICE": 255,
+}
+
+
+class WrongLayout(Exception):
+    """The bindings and the header disagree."""
+
+
+def expected():
+    """Every size and place as the bindings have it, under the C expression that asks for it."""
+    table = dict(NUMBERS)
+    for name, struct in BY_NAME.items():
+        table[f"sizeof({name})"] = sizeof(struct)
+        for field, _ in struct._fields_:
+            place = getattr(struct, field)
+            table[f"offsetof({name}, {field})"] = place.offset
+            table[f"sizeof((({name} *)0)->{field})"] = place.size
+    return table
+
+
+def program(expressions):
+    """A C program that prints the number of each expression."""
+    lines = [f'    printf("%zu\\n", (size_t)({expression}));' for expression in expressions]
+    head = f'#include "{HEADER}"\n#include <stdio.h>\n\nint main(void)\n{{\n'
+    return head + "\n".join(lines) + "\n    return 0;\n}\n"
+
+
+def by_the_compiler(expressions):
+    """The numbers that the C compiler gives."""
+    source, binary = FOLDER / "layout.c", FOLDER / "layout"
+    source.write_text(program(expressions))
+    subprocess.run([*compiler(), "-Wall", "-Werror", "-o", binary, source], check=True)
+    printed = subprocess.run([binary], check=True, capture_output=True, text=True).stdout
+    return [int(line) for line in printed.split()]
+
+
+def names_in_header():
+    """The structs that the header has."""
+    return set(re.findall(r"^} (fp_\w+);", HEADER.read_text(), re.MULTILINE))
+
+
+def check_layout():
+    """Raise if a struct is missing, or a size or a place is another one in C."""
+    if names_in_header() != set(BY_NAME):
+        raise WrongLayout(f"other structs: {names_in_header() ^ set(BY_NAME)}")
+    table = expected()
+    for (expression, ours), theirs in zip(table.items(), by_the_compiler(table)):
+        if ours != theirs:
+            raise WrongLayout(f"{expression}: {theirs} in C, {ours} in the bindings")

@@ -1,0 +1,46 @@
+"""What a run prints."""
+
+import hashlib
+
+from reference.coverage import table
+from reference.shrink import shrink
+
+from .compare import first_difference
+from .paths import ARCHIVE, ROOT
+
+
+def archive():
+    """The archive that is tested."""
+    digest = hashlib.sha256(ARCHIVE.read_bytes()).hexdigest()
+    return f"archive {ARCHIVE.relative_to(ROOT)}, SHA-256 {digest[:16]}"
+
+
+def reached(tally):
+    """Answers, stages, landmarks and spoiled devices, counted."""
+    lines = [table(tally.coverage)]
+    lines += [f"{times:>7}  {name}" for name, times in tally.landmarks.counts.items()]
+    spoiled = sorted(tally.any_bytes.tried.items())
+    lines += [f"{times:>7}  any bytes: {name}" for name, times in spoiled]
+    return "\n".join(lines)
+
+
+def shortest(library, failure):
+    """The shortest list that still differs; empty if it takes a spoiled device to show it."""
+    def fails(events):
+        return first_difference(library, events) is not None
+
+    return shrink(failure.events, fails) if fails(failure.events) else []
+
+
+def failed(library, failure):
+    """The shortest failing list as Python, and both sides' results."""
+    events = shortest(library, failure)
+    difference = first_difference(library, events)[1] if events else failure.difference
+    lines = [f"DIFFERENCE in run {failure.seed} at event {len(failure.events)}"]
+    if events:
+        listed = [f"    {event!r}," for event in events]
+        lines += ["from reference.events import *", "events = [", *listed, "]"]
+    lines.append(f"differs: {difference.what}")
+    lines.append(f"reference: {difference.reference}")
+    lines.append(f"library:   {difference.library}")
+    return "\n".join(lines)

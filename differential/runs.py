@@ -1,0 +1,77 @@
+"""Runs of generated events, each from its own power-on."""
+
+from dataclasses import dataclass, field
+
+from reference.coverage import Coverage, not_reached
+from reference.generate import Generator
+from reference.landmarks import Landmarks
+
+from .anybytes import AnyBytes
+from .compare import Difference, Pair
+
+# Spoiled devices are tried at every so many events.
+SPOIL_EVERY = 10
+
+
+@dataclass(frozen=True)
+class Failure:
+    """A run that shows a difference: its events up to there."""
+
+    seed: str
+    events: list
+    difference: Difference
+
+
+@dataclass
+class Tally:
+    """What all runs have reached."""
+
+    any_bytes: AnyBytes | None
+    coverage: Coverage = field(default_factory=Coverage)
+    landmarks: Landmarks = field(default_factory=Landmarks)
+    events: int = 0
+    runs: int = 0
+
+    def note(self, before, event, after, reply):
+        self.events += 1
+        self.coverage.note(before, event, after, reply)
+        self.landmarks.note(before, event, after, reply)
+
+    def missed(self):
+        """The answers, stages and spoiled places that no run has reached."""
+        answers, stages = not_reached(self.coverage)
+        spoiled = self.any_bytes.never_tried() if self.any_bytes else []
+        return [*answers, *stages, *spoiled]
+
+    def spoil(self, place, device, event):
+        """A difference of spoiled devices, now and then in a run."""
+        if self.any_bytes is None or place % SPOIL_EVERY:
+            return None
+        return self.any_bytes.check(device, event)
+
+
+def run(library, seed, length, tally):
+    """One run of so many events; a Failure, or None."""
+    generator, pair, events = Generator(seed), Pair(library), []
+    difference = pair.state()
+    while difference is None and len(events) < length:
+        before = pair.reference
+        event = generator.next_event(before)
+        spoiled = tally.spoil(len(events), pair.device, event)
+        events.append(event)
+        reply, difference = pair.send(event)
+        difference = difference or spoiled
+        tally.note(before, event, pair.reference, reply)
+    return Failure(seed, events, difference) if difference else None
+
+
+def runs(library, seed, count, length, any_bytes=None):
+    """So many events in runs of this length; the tally, and a Failure or None."""
+    tally = Tally(any_bytes)
+    while tally.events < count:
+        # A run's seed is its name, so that each can be had again by itself.
+        failure = run(library, f"{seed}.{tally.runs}", min(length, count - tally.events), tally)
+        tally.runs += 1
+        if failure:
+            return tally, failure
+    return tally, None

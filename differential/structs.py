@@ -1,0 +1,107 @@
+"""The structs of include/fastpair.h, field by field."""
+
+from ctypes import Structure, c_size_t, c_uint8, c_uint32, c_uint64
+
+LINKS = 8
+MOST_SALTS = 16
+STORED_LIST_MAX = 84
+
+
+class FpAddress(Structure):
+    _fields_ = [("bytes", c_uint8 * 6)]
+
+
+class FpSalt(Structure):
+    _fields_ = [("length", c_uint8), ("bytes", c_uint8 * 8)]
+
+
+class FpSpentSalts(Structure):
+    _fields_ = [("salts", FpSalt * MOST_SALTS), ("count", c_size_t)]
+
+
+class FpFailures(Structure):
+    _fields_ = [("count", c_uint8), ("last", c_uint64)]
+
+
+class FpGuard(Structure):
+    _fields_ = [("spent", FpSpentSalts), ("failures", FpFailures)]
+
+
+class FpSession(Structure):
+    _fields_ = [
+        ("since", c_uint64),
+        ("passkey", c_uint32),
+        ("stage", c_uint8),
+        ("key", c_uint8 * 16),
+    ]
+
+
+class FpStored(Structure):
+    _fields_ = [("length", c_size_t), ("bytes", c_uint8 * STORED_LIST_MAX)]
+
+
+class FpIdentity(Structure):
+    _fields_ = [("public_address", FpAddress), ("model", c_uint8 * 3)]
+
+
+class FpDevice(Structure):
+    _fields_ = [
+        ("clock", c_uint64),
+        ("sessions", FpSession * LINKS),
+        ("guard", FpGuard),
+        ("stored", FpStored),
+        ("identity", FpIdentity),
+        ("ble", FpAddress),
+        ("salt", c_uint8 * 2),
+        ("pairing", c_uint8),
+    ]
+
+
+class FpStart(Structure):
+    _fields_ = [("identity", FpIdentity), ("ble", FpAddress), ("salt", c_uint8 * 2)]
+
+
+class FpBond(Structure):
+    # A number and not a truth value, so that a 2 in this byte would be seen.
+    _fields_ = [("wanted", c_uint8), ("address", FpAddress)]
+
+
+class FpReply(Structure):
+    _fields_ = [
+        ("answer", c_uint8),
+        ("tried", c_uint8),
+        ("confirm", c_uint8),
+        ("bond", FpBond),
+    ]
+
+
+class FpOutcome(Structure):
+    _fields_ = [("next", FpDevice), ("reply", FpReply)]
+
+
+class FpReport(Structure):
+    _fields_ = [("answer", c_uint8), ("length", c_size_t)]
+
+
+class FpElement(Structure):
+    _fields_ = [("accepted", c_uint8), ("secret", c_uint8 * 32)]
+
+
+# Each struct under its name in the header.
+BY_NAME = {
+    "fp_address": FpAddress,
+    "fp_salt": FpSalt,
+    "fp_spent_salts": FpSpentSalts,
+    "fp_failures": FpFailures,
+    "fp_guard": FpGuard,
+    "fp_session": FpSession,
+    "fp_stored": FpStored,
+    "fp_identity": FpIdentity,
+    "fp_device": FpDevice,
+    "fp_start": FpStart,
+    "fp_bond": FpBond,
+    "fp_reply": FpReply,
+    "fp_outcome": FpOutcome,
+    "fp_report": FpReport,
+    "fp_element": FpElement,
+}

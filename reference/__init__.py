@@ -1,0 +1,1 @@
+"""A second implementation of the Provider's rules, written from document 01 alone."""

@@ -1,0 +1,53 @@
+"""Small draws that every part of the generator uses."""
+
+from .device import Stage
+
+NO_ACCOUNT_KEY = (0x00, 0x02, 0x03, 0x05, 0x84, 0xFF)
+
+
+def weighted(random, weights):
+    """One of the names, as often as its weight says."""
+    return random.choices(list(weights), list(weights.values()))[0]
+
+
+def account_key(random):
+    """A new account key."""
+    return b"\x04" + random.randbytes(15)
+
+
+def other_bit(random, data):
+    """The same bytes with one bit turned."""
+    bit = random.randrange(8 * len(data))
+    turned = bytearray(data)
+    turned[bit // 8] ^= 1 << bit % 8
+    return bytes(turned)
+
+
+def lent_output(random):
+    """A lent output of one of the sizes around 16, filled with random bytes."""
+    size = weighted(random, {0: 1, 1: 0.5, 15: 1.5, 16: 40, 17: 20, 40: 30})
+    return random.randbytes(size)
+
+
+def resized(random, data, sizes):
+    """The data cut or filled up to one of these sizes."""
+    size = random.choice(sizes)
+    return data[:size] + random.randbytes(max(0, size - len(data)))
+
+
+def link_number(random):
+    """A link of the device."""
+    return random.randrange(8)
+
+
+def idle_link(random, device):
+    """An idle link, if there is one."""
+    idle = [link for link, session in enumerate(device.links) if session is None]
+    return random.choice(idle) if idle else link_number(random)
+
+
+def busy_link(random, device, stages=Stage):
+    """A link that holds a K in one of these stages, or None."""
+    links = enumerate(device.links)
+    busy = [link for link, session in links if session is not None and session.stage in stages]
+    return random.choice(busy) if busy else None

@@ -1,0 +1,219 @@
+"""Document 01's answer table row by row, the order of its checks, and its runs."""
+
+import unittest
+
+from .bench import BLE, FILTER_SALT, MODEL, OUT, PUBLIC, Bench, account_key
+from .events import (
+    AccountKeyWrite,
+    AddressRotated,
+    ConfirmationNeeded,
+    FactoryReset,
+    LinkDown,
+    LinkUp,
+    Overflow,
+    PairingEnded,
+    PairingMode,
+    PairingStarted,
+    PasskeyWrite,
+    PowerOn,
+)
+from .model import stored_list
+
+KEY = account_key(1)
+SHORT = bytes(15)
+STAGES = ("asked", "pairing", "confirming", "proved", "paired")
+
+
+def events_on(link, clock):
+    """One event of every kind that names a link and lends nothing."""
+    return (
+        LinkUp(link, clock),
+        LinkDown(link, clock),
+        PairingStarted(link, clock, 1),
+        ConfirmationNeeded(link, clock, 0),
+        PairingEnded(link, clock, True),
+        PairingEnded(link, clock, False),
+        AccountKeyWrite(link, clock, bytes(16)),
+    )
+
+
+class Table(unittest.TestCase):
+    def setUp(self):
+        self.bench = Bench([KEY])
+
+    def unchanged(self, send, answer):
+        """The answer comes, the state stays, and nothing is handed out."""
+        before = self.bench.device
+        self.assertEqual(send(), answer)
+        self.assertEqual(self.bench.device, before)
+        reply = self.bench.reply
+        self.assertEqual((reply.tried, reply.bond, reply.confirm), (0, None, None))
+
+    def test_0_and_9_to_12_are_in_the_pairing_tests(self):
+        self.bench.bring_to("paired", KEY)
+        self.assertEqual(self.bench.stage(), "paired")
+
+    def test_1_link_above_7(self):
+        self.bench.bring_to("proved", KEY, clock=50)
+        for link in (8, 9, 255):
+            for event in events_on(link, 60):
+                self.unchanged(lambda: self.bench.send(event), 1)
+            self.unchanged(lambda: self.bench.request(KEY, link, 60), 1)
+            self.unchanged(lambda: self.bench.passkey(KEY, link, 60), 1)
+
+    def test_2_wrong_length(self):
+        self.bench.bring_to("asked", KEY, clock=50)
+        for size in (0, 1, 15, 17, 64, 79, 81, 96, 160):
+            self.unchanged(lambda: self.bench.raw_request(bytes(size), clock=60), 2)
+            self.assertEqual(self.bench.reply.out, OUT)
+
+    def test_3_our_passkey_too_large(self):
+        self.bench.bring_to("pairing", KEY, clock=50)
+        for passkey in (1_000_000, 1 << 24, 2**32 - 1):
+            self.unchanged(lambda: self.bench.need(0, 60, passkey), 3)
+        self.assertEqual(self.bench.need(0, 60, 999_999), 0)
+
+    def test_4_clock_goes_back(self):
+        for event in events_on(0, 49) + (
+            PairingMode(True, 49),
+            AddressRotated(b"\x01" * 6, b"\x02" * 2, 49),
+            FactoryReset(49),
+            PasskeyWrite(0, 49, bytes(16), bytes(12), OUT),
+        ):
+            bench = Bench([KEY])
+            bench.bring_to("asked", KEY, link=3, clock=50)
+            bench.bring_to("proved", KEY, link=0, clock=50)
+            before = bench.device
+            self.assertEqual(bench.send(event), 4)
+            self.assertEqual(bench.device, before.copy(links=(None,) * 8))
+            self.assertEqual(bench.reply.out, OUT if hasattr(event, "out") else b"")
+
+    def test_4_for_a_key_based_write(self):
+        self.bench.bring_to("asked", KEY, clock=50)
+        self.assertEqual(self.bench.request(KEY, clock=49), 4)
+        self.assertEqual(self.bench.device.links, (None,) * 8)
+        self.assertEqual((self.bench.device.clock, self.bench.reply.out), (50, OUT))
+
+    def test_13_output_too_short(self):
+        self.bench.bring_to("confirming", KEY, clock=50)
+        for size in (0, 1, 15):
+            out = bytes(size)
+            self.unchanged(lambda: self.bench.request(KEY, clock=60, out=out), 13)
+            self.assertEqual(self.bench.reply.out, out)
+            self.unchanged(lambda: self.bench.passkey(KEY, clock=60, out=out), 13)
+            self.assertEqual(self.bench.reply.out, out)
+
+    def test_14_leaves_the_earlier_device(self):
+        malformed = PowerOn(b"", PUBLIC, BLE, MODEL, FILTER_SALT)
+        self.unchanged(lambda: self.bench.send(malformed), 14)
+
+
+class Order(unittest.TestCase):
+    """ "Checked in this order: 1, 2, 3, 13, 4, then 5, 6, 7, 8 .. or 9, 10, 11, 12" """
+
+    def setUp(self):
+        self.bench = Bench([KEY])
+        self.bench.bring_to("pairing", KEY, clock=50)
+
+    def test_first_five_checks(self):
+        bench = self.bench
+        self.assertEqual(bench.raw_request(bytes(17), 8, 49, SHORT), 1)
+        self.assertEqual(bench.raw_request(bytes(17), 0, 49, SHORT), 2)
+        self.assertEqual(bench.raw_request(bytes(16), 0, 49, SHORT), 13)
+        self.assertEqual(bench.need(8, 49, 1_000_000), 1)
+        self.assertEqual(bench.need(0, 49, 1_000_000), 3)
+        self.assertEqual(bench.raw_passkey(b"", 8, 49, SHORT), 1)
+        self.assertEqual(bench.raw_passkey(b"", 0, 49, SHORT), 13)
+        self.assertEqual(bench.stage(), "pairing")
+        self.assertEqual(bench.raw_request(bytes(16), 0, 49), 4)
+
+    def test_4_comes_before_5_and_6(self):
+        for _ in range(10):
+            self.bench.request(account_key(9), clock=50)
+        self.assertEqual(self.bench.public_request(clock=49), 4)
+        self.assertEqual(self.bench.public_request(clock=50), 5)
+
+    def test_5_comes_before_6_7_and_8(self):
+        bench = self.bench
+        for _ in range(10):
+            self.assertEqual(bench.request(account_key(9), clock=50), 7)
+        self.assertEqual(bench.public_request(clock=50), 5)
+        self.assertEqual(bench.request(account_key(9), clock=50), 5)
+        self.assertEqual(bench.request(KEY, clock=50, salt=bench.device.spent[0]), 5)
+
+    def test_6_comes_before_7(self):
+        self.assertEqual(self.bench.public_request(clock=50, accepted=False), 6)
+
+    def test_3_comes_before_9(self):
+        self.assertEqual(self.bench.need(5, 50, 1_000_000), 3)
+        self.assertEqual(self.bench.need(5, 50, 0), 9)
+
+    def test_9_10_11(self):
+        self.assertEqual(self.bench.start(5, 50, capability=3), 9)
+        self.assertEqual(self.bench.start(0, 50, capability=3), 10)
+
+    def test_10_comes_before_12(self):
+        self.assertEqual(self.bench.raw_passkey(b"", 0, 50), 10)
+        self.assertEqual(self.bench.raw_passkey(b"", 0, 50), 9)
+
+
+class DeviceEvents(unittest.TestCase):
+    def setUp(self):
+        self.bench = Bench([KEY])
+        for link, stage in enumerate(STAGES):
+            self.bench.bring_to(stage, KEY, link, clock=50)
+
+    def test_marker_drops_every_k_and_nothing_else(self):
+        before = self.bench.device
+        self.assertEqual(self.bench.send(Overflow()), 0)
+        self.assertEqual(self.bench.device, before.copy(links=(None,) * 8))
+
+    def test_paired_marker_account_key_write(self):
+        self.bench.send(Overflow())
+        self.assertEqual(self.bench.account_key(KEY, account_key(2), 4, 51), 9)
+        self.assertEqual(self.bench.device.keys, (KEY,))
+
+    def test_link_up_and_down_drop_that_link_only(self):
+        for kind in (LinkUp, LinkDown):
+            for link in range(8):
+                bench = Bench([KEY])
+                bench.device = self.bench.device
+                links = list(bench.device.links)
+                links[link] = None
+                for clock in (51, 52):
+                    self.assertEqual(bench.send(kind(link, clock)), 0)
+                    self.assertEqual(bench.device.links, tuple(links))
+
+    def test_pairing_mode(self):
+        for on in (True, True, False, False):
+            expected = self.bench.device.copy(pairing_mode=on, clock=51)
+            self.assertEqual(self.bench.mode(on, 51), 0)
+            self.assertEqual(self.bench.device, expected)
+
+    def test_address_rotated(self):
+        expected = self.bench.device.copy(ble=b"\x09" * 6, salt=b"\x01\x02", clock=51)
+        self.assertEqual(self.bench.send(AddressRotated(b"\x09" * 6, b"\x01\x02", 51)), 0)
+        self.assertEqual(self.bench.device, expected)
+        self.assertEqual(self.bench.request(KEY, 5, 51), 7)
+        self.assertEqual(self.bench.request(KEY, 5, 51, address=b"\x09" * 6), 0)
+        self.assertEqual(self.bench.request(KEY, 5, 51, address=PUBLIC), 0)
+
+    def test_factory_reset(self):
+        self.bench.request(account_key(9), 5, 51)
+        self.bench.mode(True, 51)
+        self.assertEqual(self.bench.send(FactoryReset(52)), 0)
+        device = self.bench.device
+        self.assertEqual((device.keys, device.spent, device.failures), ((), (), 0))
+        self.assertEqual((device.links, device.clock), ((None,) * 8, 52))
+        self.assertEqual((device.pairing_mode, device.ble, device.public), (True, BLE, PUBLIC))
+        self.assertEqual(stored_list(device).hex(), "00020100")
+
+    def test_only_power_on_makes_a_device(self):
+        bench = Bench()
+        bench.device = None
+        with self.assertRaises(ValueError):
+            bench.send(Overflow())
+
+
+if __name__ == "__main__":
+    unittest.main()
