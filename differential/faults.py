@@ -5,7 +5,6 @@ from ctypes import sizeof
 from reference.stored_list import read_stored_list
 
 from .structs import LINKS, MOST_SALTS, STORED_LIST_MAX, FpDevice
-from .view import places
 
 
 def copy(device):
@@ -17,11 +16,11 @@ def copy(device):
 
 
 def many_salts(random, device):
-    device.guard.spent.count = random.choice((17, 18, 255, 256, 2**32, 2**32 + 3, 2**64 - 1))
+    device.spent.count = random.choice((17, 18, 255, 256, 2**32, 2**32 + 3, 2**64 - 1))
 
 
 def many_failures(random, device):
-    device.guard.failures.count = random.choice((11, 12, 128, 255))
+    device.failures = random.choice((11, 12, 128, 255))
 
 
 def unknown_stage(random, device):
@@ -80,7 +79,7 @@ def idle_link(random, device):
 
 
 def free_salts(random, device):
-    spent = device.guard.spent
+    spent = device.spent
     for salt in spent.salts[spent.count :]:
         salt.length = random.choice((0, 2, 8, 255))
         salt.bytes[:] = list(random.randbytes(8))
@@ -94,33 +93,19 @@ def behind_list(random, device):
 
 
 def no_failure(random, device):
-    if device.guard.failures.count:
+    if device.failures:
         return False
-    device.guard.failures.last = random.getrandbits(64)
+    device.failed_at = random.getrandbits(64)
     return True
 
 
-def between_fields(random, device):
-    raw = memoryview(device).cast("B")
-    for offset in PADDING:
-        raw[offset] = random.randrange(256)
+def reserved(random, device):
+    for part in (device, device.stored, *device.sessions):
+        part.reserved[:] = list(random.randbytes(len(part.reserved)))
     return True
 
 
-def padding():
-    """The bytes of an fp_device that belong to no field."""
-    used = set()
-    for _, offset, code in places(FpDevice):
-        used.update(range(offset, offset + size_of(code)))
-    return sorted(set(range(sizeof(FpDevice))) - used)
-
-
-def size_of(code):
-    return {"B": 1, "I": 4, "Q": 8}.get(code) or int(code[:-1])
-
-
-PADDING = padding()
-NOT_IN_USE = (idle_link, free_salts, behind_list, no_failure, between_fields)
+NOT_IN_USE = (idle_link, free_salts, behind_list, no_failure, reserved)
 
 
 # ---- numbers that the header bounds nowhere
@@ -129,13 +114,13 @@ NOT_IN_USE = (idle_link, free_salts, behind_list, no_failure, between_fields)
 def any_numbers(random, device):
     """Moments, passkeys, addresses and salts as no list of events would leave them."""
     device.clock = random.choice((0, random.getrandbits(64), 2**64 - 1))
-    device.guard.failures.last = random.choice((0, random.getrandbits(64), 2**64 - 1))
+    device.failed_at = random.choice((0, random.getrandbits(64), 2**64 - 1))
     for session in device.sessions:
         session.stage = random.randrange(6)
         session.since = random.choice((0, random.getrandbits(64), 2**64 - 1))
         session.passkey = random.getrandbits(32)
         session.key[:] = list(random.randbytes(16))
-    for salt in device.guard.spent.salts:
+    for salt in device.spent.salts:
         salt.length = random.randrange(256)
-    device.guard.spent.count = random.randrange(MOST_SALTS + 1)
-    device.guard.failures.count = random.randrange(11)
+    device.spent.count = random.randrange(MOST_SALTS + 1)
+    device.failures = random.randrange(11)

@@ -13,7 +13,7 @@ STAGES = {
     Stage.PAIRED: 5,
 }
 # "An idle link has zeros: a dropped key is gone from memory."
-IDLE = (0, 0, 0, bytes(16))
+IDLE = (0, 0, 0, bytes(16), bytes(3))
 NO_SALT = (0, bytes(8))
 
 
@@ -26,16 +26,17 @@ def image(device):
         found += link(session)
     found += salts(device.spent)
     # While nothing is counted the last failure's moment is not in use.
-    found += (device.failures, device.failed_at if device.failures else 0)
+    found += (device.failed_at if device.failures else 0,)
     found += stored(stored_list(device))
-    found += (device.public, device.model, device.ble, device.salt, int(device.pairing_mode))
+    found += (device.public, device.model, device.ble, device.salt)
+    found += (int(device.pairing_mode), device.failures, bytes(5))
     return tuple(found)
 
 
 def link(session):
     if session is None:
         return IDLE
-    return session.began, session.passkey, STAGES[session.stage], session.key
+    return session.began, session.passkey, STAGES[session.stage], session.key, bytes(3)
 
 
 def salts(spent):
@@ -48,11 +49,12 @@ def salts(spent):
 
 def stored(text):
     """ "the first `length` bytes"; the rest is not in use."""
-    return len(text), text.ljust(STORED_LIST_MAX, b"\0")
+    return len(text), text.ljust(STORED_LIST_MAX, b"\0"), bytes(4)
 
 
 def off():
     """ "all zeros and an empty list" """
-    guard = *salts(()), 0, 0
+    guard = *salts(()), 0
     identity = bytes(6), bytes(3)
-    return (0, *IDLE * LINKS, *guard, *stored(pack(())), *identity, bytes(6), bytes(2), 0)
+    beacon = bytes(6), bytes(2), 0, 0, bytes(5)
+    return (0, *IDLE * LINKS, *guard, *stored(pack(())), *identity, *beacon)

@@ -53,10 +53,22 @@ def names_in_header():
     return set(re.findall(r"^} (fp_\w+);", HEADER.read_text(), re.MULTILINE))
 
 
+def with_gaps():
+    """The structs with bytes that belong to no field: what was dropped could stand in them."""
+    sizes = {name: [field.size for field in fields(struct)] for name, struct in BY_NAME.items()}
+    return [name for name, each in sizes.items() if sum(each) != sizeof(BY_NAME[name])]
+
+
+def fields(struct):
+    return [getattr(struct, field) for field, _ in struct._fields_]
+
+
 def check_layout():
-    """Raise if a struct is missing, or a size or a place is another one in C."""
+    """Raise if a struct is missing or has gaps, or a size or a place is another one in C."""
     if names_in_header() != set(BY_NAME):
         raise WrongLayout(f"other structs: {names_in_header() ^ set(BY_NAME)}")
+    if with_gaps():
+        raise WrongLayout(f"bytes that belong to no field: {with_gaps()}")
     table = expected()
     for (expression, ours), theirs in zip(table.items(), by_the_compiler(table)):
         if ours != theirs:

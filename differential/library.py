@@ -42,11 +42,13 @@ class Library:
         return self.told(self.functions["fp_advertisement"](device, hide, address, len(out)))
 
     def told(self, report):
+        check_zero(report.reserved)
         return report.answer, report.length, self.output.back()
 
     def call(self, name, device, *arguments):
         """An event that lends no output."""
         outcome = self.functions[name](device, *arguments)
+        check_zero(outcome.reserved)
         return outcome.next, reply_of(outcome.reply, b"")
 
     def read(self, name, device, head, data, tail=()):
@@ -66,12 +68,19 @@ class Library:
         )
         self.input.check_kept(data)
         self.salt.check_kept(event.salt)
+        check_zero(outcome.reserved)
         return outcome.next, reply_of(outcome.reply, self.output.back())
 
 
 def load():
     """The library, built from the archive."""
     return Library(bind(build()))
+
+
+def check_zero(reserved):
+    """What is reserved holds nothing, and so nothing that was dropped."""
+    if any(reserved):
+        raise Spoiled(f"reserved bytes {bytes(reserved).hex()}")
 
 
 def reply_of(reply, out):

@@ -134,12 +134,12 @@ def marker_spares_link_7(arguments, result):
 
 
 def marker_frees_salts(arguments, result):
-    spent = result.next.guard.spent
+    spent = result.next.spent
     spent.count = 0
 
 
 def marker_counts_anew(arguments, result):
-    result.next.guard.failures.count = 0
+    result.next.failures = 0
 
 
 def marker_forgets_keys(arguments, result):
@@ -149,7 +149,7 @@ def marker_forgets_keys(arguments, result):
 
 def salts_kept(arguments, result):
     if answers(result, 0):
-        result.next.guard.spent = arguments[0].guard.spent
+        result.next.spent = arguments[0].spent
 
 
 def no_device_taken(arguments, result):

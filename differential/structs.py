@@ -19,25 +19,22 @@ class FpSpentSalts(Structure):
     _fields_ = [("salts", FpSalt * MOST_SALTS), ("count", c_size_t)]
 
 
-class FpFailures(Structure):
-    _fields_ = [("count", c_uint8), ("last", c_uint64)]
-
-
-class FpGuard(Structure):
-    _fields_ = [("spent", FpSpentSalts), ("failures", FpFailures)]
-
-
 class FpSession(Structure):
     _fields_ = [
         ("since", c_uint64),
         ("passkey", c_uint32),
         ("stage", c_uint8),
         ("key", c_uint8 * 16),
+        ("reserved", c_uint8 * 3),
     ]
 
 
 class FpStored(Structure):
-    _fields_ = [("length", c_size_t), ("bytes", c_uint8 * STORED_LIST_MAX)]
+    _fields_ = [
+        ("length", c_size_t),
+        ("bytes", c_uint8 * STORED_LIST_MAX),
+        ("reserved", c_uint8 * 4),
+    ]
 
 
 class FpIdentity(Structure):
@@ -48,12 +45,15 @@ class FpDevice(Structure):
     _fields_ = [
         ("clock", c_uint64),
         ("sessions", FpSession * LINKS),
-        ("guard", FpGuard),
+        ("spent", FpSpentSalts),
+        ("failed_at", c_uint64),
         ("stored", FpStored),
         ("identity", FpIdentity),
         ("ble", FpAddress),
         ("salt", c_uint8 * 2),
         ("pairing", c_uint8),
+        ("failures", c_uint8),
+        ("reserved", c_uint8 * 5),
     ]
 
 
@@ -76,11 +76,11 @@ class FpReply(Structure):
 
 
 class FpOutcome(Structure):
-    _fields_ = [("next", FpDevice), ("reply", FpReply)]
+    _fields_ = [("next", FpDevice), ("reply", FpReply), ("reserved", c_uint8 * 6)]
 
 
 class FpReport(Structure):
-    _fields_ = [("answer", c_uint8), ("length", c_size_t)]
+    _fields_ = [("length", c_size_t), ("answer", c_uint8), ("reserved", c_uint8 * 7)]
 
 
 class FpElement(Structure):
@@ -92,8 +92,6 @@ BY_NAME = {
     "fp_address": FpAddress,
     "fp_salt": FpSalt,
     "fp_spent_salts": FpSpentSalts,
-    "fp_failures": FpFailures,
-    "fp_guard": FpGuard,
     "fp_session": FpSession,
     "fp_stored": FpStored,
     "fp_identity": FpIdentity,

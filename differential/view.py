@@ -1,4 +1,4 @@
-"""The values of a struct in a row, without the padding between them."""
+"""The values of a struct in a row."""
 
 import struct
 from ctypes import Array, Structure, c_size_t, c_uint8, c_uint32, c_uint64, sizeof
@@ -24,7 +24,7 @@ def places(kind, offset=0, name=""):
 
 
 def packing(kind):
-    """The format that reads the struct and skips its padding."""
+    """The format that reads the struct, whatever stands between its fields."""
     codes, at = "=", 0
     for _, offset, code in places(kind):
         codes += f"{offset - at}x{code}"

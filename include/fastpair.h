@@ -84,17 +84,6 @@ typedef struct {
     size_t count;
 } fp_spent_salts;
 
-/* Requests in a row that no key fitted, and the last one's moment. */
-typedef struct {
-    uint8_t count;
-    uint64_t last;
-} fp_failures;
-
-typedef struct {
-    fp_spent_salts spent;
-    fp_failures failures;
-} fp_guard;
-
 /* One link: the moment its stage began, our passkey while it is to be confirmed, its stage and its session key. An idle
  * link has zeros: a dropped key is gone from memory. */
 typedef struct {
@@ -102,12 +91,14 @@ typedef struct {
     uint32_t passkey;
     uint8_t stage;
     uint8_t key[16];
+    uint8_t reserved[3];
 } fp_session;
 
 /* The owners' account keys as the stored list, ready to be saved: the first `length` bytes. */
 typedef struct {
     size_t length;
     uint8_t bytes[FP_STORED_LIST_MAX];
+    uint8_t reserved[4];
 } fp_stored;
 
 /* What power-on fixes. */
@@ -116,17 +107,25 @@ typedef struct {
     uint8_t model[3];
 } fp_identity;
 
-/* A device: read it as you like, hand it in as you got it. Bytes that no device has are refused with FP_NOT_A_DEVICE; the
- * bytes of places that are not in use do not count, and come back as zeros. */
+/* A device: read it as you like, hand it in as you got it. It has no padding, so that a dropped key is in none of its bytes
+ * and two equal devices are equal byte by byte.
+ *
+ * FP_NOT_A_DEVICE is the answer to a `stored` that is no stored list, more than 16 salts, more than 10 failures, a stage
+ * above FP_STAGE_PAIRED and a `pairing` above 1. Any other bytes are served by the rules as they stand. Not looked at, and
+ * zero in the device that comes back: the fields of an idle link, salts past `count`, bytes of the list past `length`,
+ * `failed_at` while `failures` is 0, and what is reserved. */
 typedef struct {
     uint64_t clock;
     fp_session sessions[FP_LINKS];
-    fp_guard guard;
+    fp_spent_salts spent;
+    uint64_t failed_at;  /* the moment of the last counted failure */
     fp_stored stored;
     fp_identity identity;
     fp_address ble;
-    uint8_t salt[2];
-    uint8_t pairing;
+    uint8_t salt[2];     /* of the advertised filter */
+    uint8_t pairing;     /* 1 in pairing mode */
+    uint8_t failures;    /* requests in a row that no key fitted */
+    uint8_t reserved[5];
 } fp_device;
 
 /* What power-on is given besides the stored list. */
@@ -153,12 +152,14 @@ typedef struct {
 typedef struct {
     fp_device next;
     fp_reply reply;
+    uint8_t reserved[6];
 } fp_outcome;
 
 /* FP_TAKEN and the number of bytes written, or FP_OUTPUT_TOO_SHORT (or FP_NOT_A_DEVICE) and 0. */
 typedef struct {
-    uint8_t answer;
     size_t length;
+    uint8_t answer;
+    uint8_t reserved[7];
 } fp_report;
 
 /* What the secure element made of the public key in an 80-byte request: its secret, or a rejected point (accepted 0). A
@@ -175,11 +176,11 @@ typedef struct {
 #define FP_LAYOUT(what) _Static_assert(what, #what)
 #endif
 FP_LAYOUT(sizeof(fp_session) == 32 && offsetof(fp_session, key) == 13);
-FP_LAYOUT(sizeof(fp_guard) == 168 && offsetof(fp_guard, failures) == 152);
+FP_LAYOUT(sizeof(fp_spent_salts) == 152 && offsetof(fp_spent_salts, count) == 144);
 FP_LAYOUT(sizeof(fp_stored) == 96 && offsetof(fp_stored, bytes) == 8);
-FP_LAYOUT(sizeof(fp_device) == 552 && offsetof(fp_device, guard) == 264 && offsetof(fp_device, pairing) == 545);
+FP_LAYOUT(sizeof(fp_device) == 544 && offsetof(fp_device, spent) == 264 && offsetof(fp_device, failures) == 538);
 FP_LAYOUT(sizeof(fp_start) == 17 && sizeof(fp_element) == 33 && sizeof(fp_bond) == 7);
-FP_LAYOUT(sizeof(fp_reply) == 10 && sizeof(fp_outcome) == 568 && sizeof(fp_report) == 16);
+FP_LAYOUT(sizeof(fp_reply) == 10 && sizeof(fp_outcome) == 560 && sizeof(fp_report) == 16);
 #undef FP_LAYOUT
 
 /* ---- power-on and what concerns no single link */

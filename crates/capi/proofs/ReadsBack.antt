@@ -13,7 +13,7 @@ use Rattle.capi.proofs.Links.{links-back, known-back, session-canonical
 use Rattle.capi.proofs.StoredKeys.{list-back, list-valid}
 use Rattle.capi.specs.Calls.{served, lentBack}
 use Rattle.capi.specs.Demands.{ReadsBack, AnyBytes, CallIsStep, afterCalls, CallsAreSteps}
-use Rattle.capi.specs.Plain.{noSession, sessionOf, stagesKnown, plainKeys, listOf, isWellFormed, flag, plain, numbersKnown, isDevice, withKeysOf, deviceOf}
+use Rattle.capi.specs.Plain.{noSession, sessionOf, stagesKnown, plainKeys, listOf, isWellFormed, flag, plain, guardOf, numbersKnown, isDevice, withKeysOf, deviceOf}
 use Rattle.capi.specs.declared.FpDevice.{FpDevice}
 use Rattle.capi.specs.declared.Unpacked.{Unpacked}
 use Rattle.capi.specs.declared.FpOutcome.{FpOutcome}
@@ -81,7 +81,7 @@ any-bytes f = go (isDevice f) refl
           links = refl;
           sessions = all-tabulate Canonical linkCount (λ l. sessionOf (getD (f .sessions) l noSession))
               (λ l. session-canonical (getD (f .sessions) l noSession));
-          guard = cleaned-valid (f .guard) (and-left (bounded (f .guard)) (stagesKnown (f .sessions) and leb (f .pairing) 1) known);
+          guard = cleaned-valid (guardOf f) (and-left (bounded (guardOf f)) (stagesKnown (f .sessions) and leb (f .pairing) 1) known);
         }
     go false h = off-valid
 

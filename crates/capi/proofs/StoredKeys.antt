@@ -42,13 +42,13 @@ list-back ks v =
 pub list-packed : (ks : AccountKeys) → keys.Valid ks → {r : Report} {b : List ℕ}
     → r ≡ reportOf (writing (held ks)) (replicate storedRoom 0)
     → b ≡ placed (writing (held ks)) (replicate storedRoom 0)
-    → _≡_ {A = FpStored} (record { length = r .length; bytes = b }) (plainKeys ks)
+    → _≡_ {A = FpStored} (record { length = r .length; bytes = b; reserved = replicate 4 0 }) (plainKeys ks)
 list-packed ks v {r} {b} p q =
     let w : List ℕ = writing (held ks) in
     let fits : leb (length w) storedRoom ≡ true = le-leb (length w) storedRoom (list-fits ks v) in
     let size : r .length ≡ length w = ap (λ (x : Report). x .length) p ∙ rw fits in
     let bytes : b ≡ padded storedRoom 0 w = q ∙ rw fits (ap (λ l. w ++ l) (drop-replicate (length w) storedRoom 0)) in
-    λ i. record { length = size i; bytes = bytes i }
+    λ i. record { length = size i; bytes = bytes i; reserved = replicate 4 0 }
 
 form-known : (m : ListForm) → isWellFormed m ≡ true → m ≡ WellFormed
 form-known WellFormed h = refl

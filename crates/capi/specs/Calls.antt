@@ -2,6 +2,7 @@
 -- Assumes nothing.
 use mathlib.Core.List.{List}
 use Prim.Native.Nat.{ℕ}
+use lib.ListN.{replicate}
 use Rattle.laws.specs.Choice.{if_then_else_}
 use Rattle.basics.specs.Output.{reportOf, placed}
 use Rattle.capi.specs.Plain.{isDevice, deviceOf, plainOutcome, plainReport}
@@ -18,7 +19,12 @@ notADevice = 255
 
 -- the bytes come back as they were
 abbrev pub returned : FpDevice → FpOutcome
-returned f = record { next = f; reply = record { answer = notADevice; tried = 0; confirm = 0; bond = noBond } }
+returned f =
+    record {
+      next = f;
+      reply = record { answer = notADevice; tried = 0; confirm = 0; bond = noBond };
+      reserved = replicate 6 0;
+    }
 
 -- an event: the next device and the answer
 unfoldable pub served : FpDevice → (Device → Effect) → FpOutcome
@@ -29,7 +35,7 @@ unfoldable pub lentBack : FpDevice → (Device → Effect) → List ℕ → List
 lentBack f rule out = if isDevice f then rule (deviceOf f) .leaves else out
 
 abbrev pub noReport : FpReport
-noReport = record { answer = notADevice; length = 0 }
+noReport = record { length = 0; answer = notADevice; reserved = replicate 7 0 }
 
 -- a question: a text for the lent output
 unfoldable pub told : FpDevice → (Device → List ℕ) → List ℕ → FpReport

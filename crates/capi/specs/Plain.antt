@@ -4,7 +4,7 @@ use mathlib.Core.Bool.{Bool, true, false, not}
 use mathlib.Core.List.{List, [], _∷_}
 use Prim.Native.Nat.{ℕ}
 use lib.Dec.{leb, eqb}
-use lib.ListN.{length, take, getD}
+use lib.ListN.{length, take, getD, replicate}
 use Rattle.laws.specs.Choice.{if_then_else_, _and_}
 use Rattle.laws.specs.Lists.{padded}
 use Rattle.laws.specs.Tabulate.{tabulate}
@@ -34,6 +34,7 @@ use Rattle.provider.specs.declared.Device.{Device}
 use Rattle.provider.specs.declared.Outcome.{Outcome}
 use Rattle.provider.specs.declared.Reply.{Reply}
 use Rattle.request_guard.specs.Guard.{bounded, cleaned}
+use Rattle.request_guard.specs.declared.Guard.{Guard}
 use Rattle.sessions.specs.Sessions.{linkCount, idle, sessionAt, stageNumber}
 use Rattle.sessions.specs.declared.Session.{Session}
 use Rattle.sessions.specs.declared.Sessions.{Sessions}
@@ -44,12 +45,12 @@ use Rattle.sessions.specs.declared.Stage.the-variants.{Asked, Pairing, Confirmi
 
 -- what stands past the last link
 abbrev pub noSession : FpSession
-noSession = record { since = 0; passkey = 0; stage = 0; key = [] }
+noSession = record { since = 0; passkey = 0; stage = 0; key = []; reserved = [] }
 
 -- the stage by its number
 abbrev pub plainSession : Session → FpSession
 plainSession s =
-    record { since = s .since .0; passkey = s .passkey; stage = stageNumber (s .stage); key = s .key }
+    record { since = s .since .0; passkey = s .passkey; stage = stageNumber (s .stage); key = s .key; reserved = replicate 3 0 }
 
 abbrev pub heldIn : FpSession → Stage → Session
 heldIn f stage =
@@ -83,7 +84,8 @@ abbrev pub storedRoom : ℕ
 storedRoom = 84
 
 abbrev pub plainKeys : AccountKeys → FpStored
-plainKeys ks = record { length = length (writing (held ks)); bytes = padded storedRoom 0 (writing (held ks)) }
+plainKeys ks =
+    record { length = length (writing (held ks)); bytes = padded storedRoom 0 (writing (held ks)); reserved = replicate 4 0 }
 
 abbrev pub listOf : FpStored → Reading
 listOf s = if leb (s .length) storedRoom then reading (take (s .length) (s .bytes)) else noReading
@@ -103,17 +105,24 @@ plain d =
     record {
       clock = d .clock .0;
       sessions = plainLinks (d .sessions);
-      guard = d .guard;
+      spent = d .guard .spent;
+      failed = d .guard .failures .last .0;
       stored = plainKeys (d .keys);
       identity = d .identity;
       ble = d .beacon .ble;
       salt = d .beacon .salt;
       pairing = flag (d .beacon .pairing);
+      failures = d .guard .failures .count;
+      reserved = replicate 5 0;
     }
+
+abbrev pub guardOf : FpDevice → Guard
+guardOf f =
+    record { spent = f .spent; failures = record { count = f .failures; last = record { 0 = f .failed } } }
 
 -- the numbers beside the keys are such as a device can have
 abbrev pub numbersKnown : FpDevice → Bool
-numbersKnown f = bounded (f .guard) and stagesKnown (f .sessions) and leb (f .pairing) 1
+numbersKnown f = bounded (guardOf f) and stagesKnown (f .sessions) and leb (f .pairing) 1
 
 -- the bytes that a device can have; those in places that are not in use do not count
 unfoldable pub isDevice : FpDevice → Bool
@@ -126,7 +135,7 @@ withKeysOf f keys =
       clock = record { 0 = f .clock };
       keys = keys;
       sessions = linksOf (f .sessions);
-      guard = cleaned (f .guard);
+      guard = cleaned (guardOf f);
       identity = f .identity;
       beacon = record { ble = f .ble; salt = f .salt; pairing = eqb (f .pairing) 1 };
     }
@@ -152,10 +161,10 @@ plainReply r =
     }
 
 abbrev pub plainOutcome : Outcome → FpOutcome
-plainOutcome o = record { next = plain (o .next); reply = plainReply (o .reply) }
+plainOutcome o = record { next = plain (o .next); reply = plainReply (o .reply); reserved = replicate 6 0 }
 
 abbrev pub plainReport : Report → FpReport
-plainReport r = record { answer = outputNumber (r .output); length = r .length }
+plainReport r = record { length = r .length; answer = outputNumber (r .output); reserved = replicate 7 0 }
 
 -- ---- what C hands in beside the device
 

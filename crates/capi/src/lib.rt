@@ -11,7 +11,7 @@ use basics::Address;
 use key_based::Bond;
 use provider::Device;
 use provider::Identity;
-use request_guard::Guard;
+use request_guard::SpentSalts;
 
 // One link: the number of its stage, 0 for idle, and what it holds.
 #[repr(C)]
@@ -20,6 +20,7 @@ pub struct FpSession {
     pub passkey: u32,
     pub stage: u8,
     pub key: [u8; 16],
+    pub reserved: [u8; 3],
 }
 
 // The account keys as the stored list, of which the first `length` bytes are in use.
@@ -27,19 +28,23 @@ pub struct FpSession {
 pub struct FpStored {
     pub length: usize,
     pub bytes: [u8; 84],
+    pub reserved: [u8; 4],
 }
 
-// A device in plain numbers.
+// A device in plain numbers, without a gap between them: what C does not name is reserved and zero.
 #[repr(C)]
 pub struct FpDevice {
     pub clock: u64,
     pub sessions: [FpSession; 8],
-    pub guard: Guard,
+    pub spent: SpentSalts,
+    pub failed: u64,
     pub stored: FpStored,
     pub identity: Identity,
     pub ble: Address,
     pub salt: [u8; 2],
     pub pairing: u8,
+    pub failures: u8,
+    pub reserved: [u8; 5],
 }
 
 // All that an answer hands out; `confirm` is 0 where the radio is asked nothing, 1 for yes, 2 for no.
@@ -55,13 +60,15 @@ pub struct FpReply {
 pub struct FpOutcome {
     pub next: FpDevice,
     pub reply: FpReply,
+    pub reserved: [u8; 6],
 }
 
 // What became of a text that goes to a lent output, and how many bytes were written.
 #[repr(C)]
 pub struct FpReport {
-    pub answer: u8,
     pub length: usize,
+    pub answer: u8,
+    pub reserved: [u8; 7],
 }
 
 // What the secure element made of the public key in an 80-byte request; `accepted` is 0 for a rejected point.

@@ -35,19 +35,23 @@ pub fn pack(device: Device) -> FpDevice
     let clock = device.clock;
     let keys = device.keys;
     let sessions = device.sessions;
-    let guard = device.guard;
+    let spent = device.guard.spent;
+    let failed = device.guard.failures.last;
     let identity = device.identity;
     let ble = device.beacon.ble;
     let salt = device.beacon.salt;
     FpDevice {
         clock: clock.0,
         sessions: pack_links(sessions),
-        guard: guard,
+        spent: spent,
+        failed: failed.0,
         stored: pack_keys(keys),
         identity: identity,
         ble: ble,
         salt: salt,
         pairing: flag(device.beacon.pairing),
+        failures: device.guard.failures.count,
+        reserved: [0u8; 5],
     }
 }
 
@@ -60,6 +64,7 @@ pub fn pack_outcome(outcome: Outcome) -> FpOutcome
     FpOutcome {
         next: pack(next),
         reply: pack_reply(reply),
+        reserved: [0u8; 6],
     }
 }
 
@@ -69,12 +74,14 @@ pub fn pack_report(report: Report) -> FpReport
     let output = report.output;
     match output {
         Output::Written => FpReport {
-            answer: 0,
             length: report.length,
+            answer: 0,
+            reserved: [0u8; 7],
         },
         Output::TooShort => FpReport {
-            answer: 13,
             length: report.length,
+            answer: 13,
+            reserved: [0u8; 7],
         },
     }
 }
@@ -94,6 +101,7 @@ pub fn returned(device: FpDevice) -> FpOutcome
                 address: Address { bytes: [0u8; 6] },
             },
         },
+        reserved: [0u8; 6],
     }
 }
 
@@ -101,8 +109,9 @@ pub fn no_report() -> FpReport
     ensures { λ r. ⌜ r ≡ calls.noReport ⌝ }
 {
     FpReport {
-        answer: NOT_A_DEVICE,
         length: 0,
+        answer: NOT_A_DEVICE,
+        reserved: [0u8; 7],
     }
 }
 
@@ -131,6 +140,7 @@ fn pack_session(session: Session) -> FpSession
         passkey: session.passkey,
         stage: sessions::number(stage),
         key: key,
+        reserved: [0u8; 3],
     }
 }
 
@@ -143,6 +153,7 @@ fn pack_keys(keys: AccountKeys) -> FpStored
     FpStored {
         length: report.length,
         bytes: bytes,
+        reserved: [0u8; 4],
     }
 }
 

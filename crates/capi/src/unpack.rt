@@ -9,6 +9,8 @@ use account_keys::Reading;
 use basics::Moment;
 use provider::Beacon;
 use provider::Device;
+use request_guard::Failures;
+use request_guard::Guard;
 use sessions::Session;
 use sessions::Sessions;
 use sessions::Stage;
@@ -49,7 +51,7 @@ fn no_device() -> Unpacked
 fn numbers_known(from: FpDevice) -> bool
     ensures { λ r. ⌜ r ≡ spec.numbersKnown from ⌝ }
 {
-    let guard = from.guard;
+    let guard = guard_of(from);
     if !guard.is_bounded() {
         return false;
     }
@@ -64,7 +66,7 @@ fn with_keys(from: FpDevice, keys: AccountKeys) -> Device
     requires { ⌜ spec.numbersKnown from ≡ true ⌝ }
     ensures { λ r. ⌜ r ≡ spec.withKeysOf from keys ⌝ }
 {
-    let guard = from.guard;
+    let guard = guard_of(from);
     let sessions = from.sessions;
     let identity = from.identity;
     let ble = from.ble;
@@ -79,6 +81,19 @@ fn with_keys(from: FpDevice, keys: AccountKeys) -> Device
             ble: ble,
             salt: salt,
             pairing: from.pairing == 1,
+        },
+    }
+}
+
+fn guard_of(from: FpDevice) -> Guard
+    ensures { λ r. ⌜ r ≡ spec.guardOf from ⌝ }
+{
+    let spent = from.spent;
+    Guard {
+        spent: spent,
+        failures: Failures {
+            count: from.failures,
+            last: Moment(from.failed),
         },
     }
 }

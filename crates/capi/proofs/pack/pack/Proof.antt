@@ -1,4 +1,5 @@
 -- Field by field.
+use lib.ListN.{replicate}
 use borrow.Author.Needs.{needs}
 use Rattle.capi.specs.Plain.{plain}
 use Rattle.capi.proofs.pack.pack.Statement.{statement}
@@ -7,18 +8,22 @@ use Rattle.capi.proofs.pack.pack.Tie as tie
 returns : tie.Need-returns
 unfolding plain
 returns c =
-    let a = c .before .before .before .before .before .before .before .before .before .before .args in
+    let a = c .before .before .before .before .before .before .before .before .before .before .before .args in
     λ i. record {
       clock = (a .device .clock .0);
       sessions = c .before .before .pack-links .ensures i;
-      guard = (a
-          .device .guard);
-      stored = c .before .pack-keys .ensures i;
+      spent = (a
+          .device .guard .spent);
+      failed = (a .device .guard .failures .last .0);
+      stored = c .before .pack-keys .ensures
+          i;
       identity = (a .device .identity);
-      ble = (a .device
-          .beacon .ble);
+      ble = (a .device .beacon .ble);
       salt = (a .device .beacon .salt);
-      pairing = c .flag .ensures i;
+      pairing
+          = c .flag .ensures i;
+      failures = (a .device .guard .failures .count);
+      reserved = replicate 5 0;
     }
 
 pub pack-spec : {M : Type 1} → statement M

@@ -1,4 +1,5 @@
 -- Field by field.
+use lib.ListN.{replicate}
 use borrow.Author.Needs.{needs}
 use Rattle.capi.proofs.pack.pack_session.Statement.{statement}
 use Rattle.capi.proofs.pack.pack_session.Tie as tie
@@ -11,6 +12,7 @@ returns c =
       passkey = (a .session .passkey);
       stage = c .number .ensures i;
       key = (a .session .key);
+      reserved = replicate 3 0;
     }
 
 pub pack-session-spec : {M : Type 1} → statement M

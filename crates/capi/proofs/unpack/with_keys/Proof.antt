@@ -1,18 +1,20 @@
 -- Field by field.
+use mathlib.Core.Path.{ap, _∙_}
 use lib.Dec.{leb, eqb}
 use borrow.Author.Needs.{needs}
 use Rattle.laws.specs.Choice.{_and_}
 use Rattle.laws.proofs.Choice.{and-left}
-use Rattle.request_guard.specs.Guard.{bounded}
-use Rattle.capi.specs.Plain.{stagesKnown}
+use Rattle.request_guard.specs.Guard.{bounded, cleaned}
+use Rattle.capi.specs.Plain.{guardOf, stagesKnown}
 use Rattle.capi.proofs.unpack.with_keys.Statement.{statement}
 use Rattle.capi.proofs.unpack.with_keys.Tie as tie
 
 cleaned-requires : tie.Need-cleaned-requires
 cleaned-requires c κs =
     let a = c .before .before .before .before .before .before .args in
-    and-left (bounded (a .from .guard)) (stagesKnown (a .from .sessions) and leb (a .from .pairing) 1) (c .before
-    .before .before .before .before .before .pre)
+    rw (c .before .before .before .before .before .guard-of .ensures) (and-left (bounded (guardOf (a .from)))
+    (stagesKnown (a .from .sessions) and leb (a .from .pairing) 1) (c .before .before .before .before .before
+    .before .pre))
 
 returns : tie.Need-returns
 returns c =
@@ -22,14 +24,16 @@ returns c =
       keys = (a .keys);
       sessions = c .before .before
           .links-of .ensures i;
-      guard = c .before .cleaned .ensures i;
+      guard = (c .before .cleaned .ensures ∙ ap cleaned (c .before .before .before .before
+          .before .before .before .guard-of .ensures)) i;
       identity = (a .from .identity);
       beacon = record {
-        ble = (a .from .ble);
+        ble = (a
+            .from .ble);
         salt = (a .from .salt);
         pairing = eqb (a .from .pairing) 1;
       };
     }
 
 pub with-keys-spec : {M : Type 1} → statement M
-with-keys-spec = tie.close (tie.spec (λ c κs. search needs) cleaned-requires returns)
+with-keys-spec = tie.close (tie.spec (λ c κs. search needs) (λ c κs. search needs) cleaned-requires returns)
