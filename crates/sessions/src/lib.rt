@@ -16,12 +16,13 @@ pub enum Stage {
     Paired,
 }
 
-// What one link holds: the session key K, when its stage began, and our passkey while it is to be confirmed.
+// What one link holds: when its stage began, our passkey while it is to be confirmed, the stage and the session key K. In this
+// order it has the fewest gaps.
 pub struct Session {
-    pub stage: Stage,
-    pub key: [u8; 16],
     pub since: Moment,
     pub passkey: u32,
+    pub stage: Stage,
+    pub key: [u8; 16],
 }
 
 pub struct Sessions {
