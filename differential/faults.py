@@ -1,4 +1,4 @@
-"""Ways to spoil an fp_device: bytes that no device has, and bytes in places that are not in use."""
+"""Ways to spoil an fp_device: bytes that are no device, and bytes in places that are not in use."""
 
 from ctypes import sizeof
 
@@ -12,7 +12,7 @@ def copy(device):
     return FpDevice.from_buffer_copy(device)
 
 
-# ---- bytes that no device has
+# ---- bytes that are no device
 
 
 def many_salts(random, device):

@@ -12,7 +12,7 @@ STAGES = {
     Stage.PROVED: 4,
     Stage.PAIRED: 5,
 }
-# "An idle link has zeros: a dropped key is gone from memory."
+# "An idle link has zeros: nothing of a dropped key stays in it."
 IDLE = (0, 0, 0, bytes(16), bytes(3))
 NO_SALT = (0, bytes(8))
 

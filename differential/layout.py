@@ -7,9 +7,21 @@ from ctypes import sizeof
 from .paths import FOLDER, HEADER, compiler
 from .structs import BY_NAME
 
+# Document 01's answers in the order of its table; their numbers are what the library is compared by.
+ANSWERS = (
+    "TAKEN UNKNOWN_LINK WRONG_LENGTH PASSKEY_TOO_LARGE CLOCK_WENT_BACK LOCKED_OUT NOT_IN_PAIRING_MODE NO_KEY_FITS"
+    " SALT_SPENT LINK_IDLE WRONG_STAGE CAPABILITY_REFUSED BAD_BLOCK OUTPUT_TOO_SHORT LIST_MALFORMED"
+).split()
+STAGES = "IDLE ASKED PAIRING CONFIRMING PROVED PAIRED".split()
+CONFIRM = "UNASKED YES NO".split()
 NUMBERS = {
+    **{f"FP_{name}": number for number, name in enumerate(ANSWERS)},
+    **{f"FP_STAGE_{name}": number for number, name in enumerate(STAGES)},
+    **{f"FP_CONFIRM_{name}": number for number, name in enumerate(CONFIRM)},
     "FP_LINKS": 8,
+    "FP_MAX_KEYS": 5,
     "FP_MAX_SALTS": 16,
+    "FP_RESPONSE_SIZE": 16,
     "FP_STORED_LIST_MAX": 84,
     "FP_ADVERTISEMENT_MAX": 18,
     "FP_NOT_A_DEVICE": 255,

@@ -9,6 +9,8 @@
  *     device = o.next;
  *     if (o.reply.answer != FP_TAKEN) ...
  *
+ * The archive is for x86-64 and needs memcpy and memset.
+ *
  * You check nothing first. Any bytes, any length, any link number and any clock get one answer, and a refusal writes
  * nothing to lent memory. What the rules are is document 01; that these functions keep them is proved.
  *
@@ -85,7 +87,7 @@ typedef struct {
 } fp_spent_salts;
 
 /* One link: the moment its stage began, our passkey while it is to be confirmed, its stage and its session key. An idle
- * link has zeros: a dropped key is gone from memory. */
+ * link has zeros: nothing of a dropped key stays in it. */
 typedef struct {
     uint64_t since;
     uint32_t passkey;
@@ -107,13 +109,13 @@ typedef struct {
     uint8_t model[3];
 } fp_identity;
 
-/* A device: read it as you like, hand it in as you got it. It has no padding, so that a dropped key is in none of its bytes
- * and two equal devices are equal byte by byte.
+/* A device: read it as you like, hand it in as you got it. It has no padding: no unused or reserved byte keeps
+ * anything of a dropped key (an owner's key stays in `stored`), and equal devices are equal byte by byte.
  *
  * FP_NOT_A_DEVICE is the answer to a `stored` that is no stored list, more than 16 salts, more than 10 failures, a stage
  * above FP_STAGE_PAIRED and a `pairing` above 1. Any other bytes are served by the rules as they stand. Not looked at, and
  * zero in the device that comes back: the fields of an idle link, salts past `count`, bytes of the list past `length`,
- * `failed_at` while `failures` is 0, and what is reserved. */
+ * `failed_at` while `failures` is 0, and what is reserved. With FP_NOT_A_DEVICE every byte comes back as it was. */
 typedef struct {
     uint64_t clock;
     fp_session sessions[FP_LINKS];
@@ -188,10 +190,10 @@ FP_LAYOUT(sizeof(fp_reply) == 10 && sizeof(fp_outcome) == 560 && sizeof(fp_repor
 /* The value before any device was made: all zeros and an empty list. */
 fp_device fp_off(void);
 
-/* Starts from the stored list as fp_stored_list wrote it. FP_TAKEN or FP_LIST_MALFORMED. */
+/* Starts from the stored list as fp_stored_list wrote it. FP_TAKEN, FP_LIST_MALFORMED or FP_NOT_A_DEVICE. */
 fp_outcome fp_power_on(fp_device device, const uint8_t *stored, size_t stored_length, fp_start start);
 
-/* Events were lost: every link's key is dropped. Send it whenever your event queue overflowed. Always FP_TAKEN. */
+/* Events were lost: every link's key is dropped. Send it whenever your event queue overflowed. FP_TAKEN for every device. */
 fp_outcome fp_overflow(fp_device device);
 
 /* `on` is 0 for off, and any other number for on. */

@@ -13,7 +13,7 @@ use Rattle.key_based.specs.Request.{noBond}
 use Rattle.provider.specs.Device.{Effect}
 use Rattle.provider.specs.declared.Device.{Device}
 
--- the answer to bytes that no device has, none of document 01's numbers
+-- the answer to bytes that are not served, none of document 01's numbers
 abbrev pub notADevice : ℕ
 notADevice = 255
 

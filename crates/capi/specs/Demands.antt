@@ -14,7 +14,7 @@ use Rattle.provider.specs.declared.Device.{Device}
 abbrev pub ReadsBack : Type 0
 ReadsBack = (d : Device) → Valid d → (isDevice (plain d) ≡ true) × (deviceOf (plain d) ≡ d)
 
--- any bytes are read as a valid device, so that no call needs a check first
+-- any bytes are read as a valid device, those that are not served as the value before any, so that no call needs a check first
 abbrev pub AnyBytes : Type 0
 AnyBytes = (f : FpDevice) → Valid (deviceOf f)
 

@@ -120,11 +120,11 @@ abbrev pub guardOf : FpDevice → Guard
 guardOf f =
     record { spent = f .spent; failures = record { count = f .failures; last = record { 0 = f .failed } } }
 
--- the numbers beside the keys are such as a device can have
+-- the numbers beside the keys are within what the rules can be served on
 abbrev pub numbersKnown : FpDevice → Bool
 numbersKnown f = bounded (guardOf f) and stagesKnown (f .sessions) and leb (f .pairing) 1
 
--- the bytes that a device can have; those in places that are not in use do not count
+-- the bytes that are served as a device; those in places that are not in use do not count
 unfoldable pub isDevice : FpDevice → Bool
 isDevice f = isWellFormed (listOf (f .stored) .form) and numbersKnown f
 
@@ -140,7 +140,7 @@ withKeysOf f keys =
       beacon = record { ble = f .ble; salt = f .salt; pairing = eqb (f .pairing) 1 };
     }
 
--- bytes that no device has stand for the value before any device
+-- bytes that are not served stand for the value before any device
 unfoldable pub deviceOf : FpDevice → Device
 deviceOf f = if isDevice f then withKeysOf f (listOf (f .stored) .keys) else off
 

@@ -1,5 +1,6 @@
 // What C firmware links: one exported function for each event, over plain structs by value. include/fastpair.h is their
-// page for C. A device that C hands in may be any bytes: `unpack` tells whether a device has them.
+// page for C. A device that C hands in may be any bytes: `unpack` tells whether they are served. Each function begins with it, since
+// C can't hand a device in but as bytes.
 mod asking;
 mod control;
 mod pack;
@@ -78,7 +79,7 @@ pub struct FpElement {
     pub secret: [u8; 32],
 }
 
-// What was handed in, read as a device; `device` is `off` where no device has these bytes.
+// What was handed in, read as a device; `device` is `off` where the bytes are not served.
 pub struct Unpacked {
     pub known: bool,
     pub device: Device,

@@ -25,7 +25,7 @@ ghost use Rattle.capi.specs.Plain as spec;
 ghost use Rattle.provider.specs.Answers.{answerNumber};
 ghost use Rattle.provider.specs.Demands.{Valid};
 
-// The answer to bytes that no device has, none of document 01's numbers.
+// The answer to bytes that are not served, none of document 01's numbers.
 const NOT_A_DEVICE: u8 = 255;
 
 pub fn pack(device: Device) -> FpDevice
@@ -86,7 +86,7 @@ pub fn pack_report(report: Report) -> FpReport
     }
 }
 
-// The answer to bytes that no device has: they come back as they were.
+// The outcome of bytes that are not served: they come back as they were.
 pub fn returned(device: FpDevice) -> FpOutcome
     ensures { λ r. ⌜ r ≡ calls.returned device ⌝ }
 {

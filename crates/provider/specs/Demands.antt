@@ -4,7 +4,7 @@ use mathlib.Core.Bool.{true}
 use mathlib.Core.List.{List, [], _∷_}
 use mathlib.Core.Logic.{_⊎_}
 use mathlib.Core.Path.{_≡_}
-use Prim.Native.Nat.{ℕ}
+use Prim.Native.Nat.{ℕ, _<_}
 use lib.ListN.{length}
 use Rattle.laws.specs.Lists.{All}
 use Rattle.account_keys.specs.StoredList.{reading, writing}
@@ -14,7 +14,8 @@ use Rattle.provider.specs.Device.{Effect}
 use Rattle.provider.specs.Event.{Event, Overflow, PowerOn, lent, step, next, after}
 use Rattle.provider.specs.Kinds.{isOnLink, linkOf, clockOf, isRequestOn, needsKeyOn}
 use Rattle.provider.specs.Table.{answerOf}
-use Rattle.provider.specs.declared.Answer.the-variants.{Taken, ClockWentBack, LinkIdle}
+use Rattle.provider.specs.declared.Answer.{Answer}
+use Rattle.provider.specs.declared.Answer.the-variants.{Taken, UnknownLink, WrongLength, PasskeyTooLarge, ClockWentBack, LockedOut, NotInPairingMode, NoKeyFits, SaltSpent, LinkIdle, WrongStage, CapabilityRefused, BadBlock, OutputTooShort, ListMalformed}
 use Rattle.provider.specs.declared.Device.{Device}
 use Rattle.provider.specs.declared.Start.{Start}
 use Rattle.sessions.specs.Sessions.{linkCount, idle, sessionAt, atClock}
@@ -119,9 +120,27 @@ NothingWithoutRequest =
     × ((k : AccountKey) → Stores (after (next d Overflow) es) e k → ⊥)
 
 -- ---- "An event on one link leaves the other links' K and stages as they are, timers and answer 4 apart."
+
+-- what an event with answer a at moment t makes of another link's session: 1, 2, 3 and 13 come before the clock step, and 4
+-- drops K on all links
+abbrev pub beside : Answer → ℕ → Session → Session
+beside UnknownLink t s = s
+beside WrongLength t s = s
+beside PasskeyTooLarge t s = s
+beside OutputTooShort t s = s
+beside ListMalformed t s = s
+beside ClockWentBack t s = idle
+beside Taken t s = atClock t s
+beside LockedOut t s = atClock t s
+beside NotInPairingMode t s = atClock t s
+beside NoKeyFits t s = atClock t s
+beside SaltSpent t s = atClock t s
+beside LinkIdle t s = atClock t s
+beside WrongStage t s = atClock t s
+beside CapabilityRefused t s = atClock t s
+beside BadBlock t s = atClock t s
+
 abbrev pub LinksApart : Type 0
 LinksApart =
-    (d : Device) (e : Event) (l : ℕ) → isOnLink e ≡ true → (linkOf e ≡ l → ⊥) →
-    (answerOf d e ≡ ClockWentBack → ⊥)
-    → (sessionAt (next d e .sessions) l ≡ sessionAt (d .sessions) l)
-    ⊎ (sessionAt (next d e .sessions) l ≡ atClock (clockOf e) (sessionAt (d .sessions) l))
+    (d : Device) (e : Event) (l : ℕ) → l < linkCount → isOnLink e ≡ true → (linkOf e ≡ l → ⊥)
+    → sessionAt (next d e .sessions) l ≡ beside (answerOf d e) (clockOf e) (sessionAt (d .sessions) l)

@@ -10,7 +10,7 @@ use Rattle.laws.specs.Choice.{if_then_else_, _and_}
 use Rattle.account_keys.specs.StoredList.{reading}
 use Rattle.account_keys.specs.declared.ListForm.{ListForm}
 use Rattle.account_keys.specs.declared.ListForm.the-variants.{WellFormed, Malformed}
-use Rattle.key_based.specs.Request.{hasPublicKey, sized, opened, Found, found, nothing, requestSalt}
+use Rattle.key_based.specs.Request.{noBond, hasPublicKey, sized, opened, Found, found, nothing, requestSalt}
 use Rattle.provider.specs.Answers.{answerNumber}
 use Rattle.provider.specs.Device.{clockStep, dropAll, dropAt, withGuard}
 use Rattle.provider.specs.Event.{Event, Overflow, LinkUp, LinkDown, PairingMode, AddressRotated, PowerOn, FactoryReset, KeyBasedWrite, PairingStarted, ConfirmationNeeded, PasskeyWrite, PairingEnded, AccountKeyWrite, lent, step, next}
@@ -19,7 +19,9 @@ use Rattle.provider.specs.Kinds.{linkOf, clockOf}
 use Rattle.provider.specs.Pairing.{refusedCapability, badBlock}
 use Rattle.provider.specs.declared.Answer.{Answer}
 use Rattle.provider.specs.declared.Answer.the-variants.{Taken, UnknownLink, WrongLength, PasskeyTooLarge, ClockWentBack, LockedOut, NotInPairingMode, NoKeyFits, SaltSpent, LinkIdle, WrongStage, CapabilityRefused, BadBlock, OutputTooShort, ListMalformed}
+use Rattle.provider.specs.declared.Confirm.the-variants.{Unasked}
 use Rattle.provider.specs.declared.Device.{Device}
+use Rattle.provider.specs.declared.Reply.{Reply}
 use Rattle.request_guard.specs.Guard.{remembered, spent, locked, failedAt}
 use Rattle.sessions.specs.Sessions.{isStage, sessionAt}
 use Rattle.sessions.specs.declared.Session.{Session}
@@ -172,3 +174,54 @@ abbrev pub Refusals : Type 0
 Refusals =
     (d : Device) (e : Event) → (answerOf d e ≡ Taken → ⊥)
     → (step d e .leaves ≡ lent e) × (next d e ≡ changed (answerOf d e) d (linkOf e) (clockOf e))
+
+-- "if none fits, the number of candidates", else the place of the first that fits
+abbrev pub countOf : Found → ℕ
+countOf (found n key) = n
+countOf (nothing n) = n
+
+-- the number of keys that an event tries, if it comes to trying
+abbrev pub triedIn : Device → Event → ℕ
+triedIn d Overflow = 0
+triedIn d (LinkUp l t) = 0
+triedIn d (LinkDown l t) = 0
+triedIn d (PairingMode on t) = 0
+triedIn d (AddressRotated ble salt t) = 0
+triedIn d (PowerOn stored start) = 0
+triedIn d (FactoryReset t) = 0
+triedIn d (KeyBasedWrite l t request element salt out) = countOf (tried (clockStep t d) element request)
+triedIn d (PairingStarted l t capability) = 0
+triedIn d (ConfirmationNeeded l t passkey) = 0
+triedIn d (PasskeyWrite l t block salt out) = 0
+triedIn d (PairingEnded l t success) = 0
+triedIn d (AccountKeyWrite l t block) = 0
+
+-- "An answer given before trying says 0."
+abbrev pub toldTried : Answer → ℕ → ℕ
+toldTried Taken n = n
+toldTried NoKeyFits n = n
+toldTried SaltSpent n = n
+toldTried UnknownLink n = 0
+toldTried WrongLength n = 0
+toldTried PasskeyTooLarge n = 0
+toldTried ClockWentBack n = 0
+toldTried LockedOut n = 0
+toldTried NotInPairingMode n = 0
+toldTried LinkIdle n = 0
+toldTried WrongStage n = 0
+toldTried CapabilityRefused n = 0
+toldTried BadBlock n = 0
+toldTried OutputTooShort n = 0
+toldTried ListMalformed n = 0
+
+-- "The answer tells the number of keys tried", for every event and answer
+abbrev pub NumberTried : Type 0
+NumberTried = (d : Device) (e : Event) → step d e .gives .reply .tried ≡ toldTried (answerOf d e) (triedIn d e)
+
+-- a refusal hands out no address for bonding and no word on a passkey
+abbrev pub refusing : Reply → Reply
+refusing r = record { answer = r .answer; tried = r .tried; bond = noBond; confirm = Unasked }
+
+abbrev pub RefusalsHandOutOnlyTried : Type 0
+RefusalsHandOutOnlyTried =
+    (d : Device) (e : Event) → (answerOf d e ≡ Taken → ⊥) → step d e .gives .reply ≡ refusing (step d e .gives .reply)

@@ -121,7 +121,7 @@ impl Device {
     }
 
     // Power-on from the stored list; a malformed one leaves the earlier device as it was.
-    pub fn power_on(self, stored: &[u8], start: Start) -> Outcome
+    pub fn power_on(mut self, stored: &[u8], start: Start) -> Outcome
         ensures { λ r. ⌜ r ≡ rule.powerOn self (now (stored .entry)) start .gives ⌝ }
     {
         let list = account_keys::read(stored);
@@ -136,27 +136,28 @@ impl Device {
     }
 
     // Events were lost, so no link's key can be trusted any more.
-    pub fn overflow(self) -> Outcome
+    pub fn overflow(mut self) -> Outcome
         ensures { λ r. ⌜ r ≡ rule.overflow self .gives ⌝ }
     {
-        self.drop_all().answers(Answer::Taken)
+        self = self.drop_all();
+        self.answers(Answer::Taken)
     }
 
-    pub fn link_up(self, link: Link, clock: Moment) -> Outcome
+    pub fn link_up(mut self, link: Link, clock: Moment) -> Outcome
         requires { ⌜ Valid self ⌝ }
         ensures { λ r. ⌜ r ≡ rule.linkChanged self (link .0) (clock .0) .gives ⌝ }
     {
         self.link_changed(link, clock)
     }
 
-    pub fn link_down(self, link: Link, clock: Moment) -> Outcome
+    pub fn link_down(mut self, link: Link, clock: Moment) -> Outcome
         requires { ⌜ Valid self ⌝ }
         ensures { λ r. ⌜ r ≡ rule.linkChanged self (link .0) (clock .0) .gives ⌝ }
     {
         self.link_changed(link, clock)
     }
 
-    pub fn pairing_mode(self, on: bool, clock: Moment) -> Outcome
+    pub fn pairing_mode(mut self, on: bool, clock: Moment) -> Outcome
         requires { ⌜ Valid self ⌝ }
         ensures { λ r. ⌜ r ≡ rule.pairingMode self on (clock .0) .gives ⌝ }
     {
@@ -164,12 +165,12 @@ impl Device {
         if clock.0 < stored.0 {
             return self.went_back();
         }
-        let mut next = self.clock_step(clock);
-        next.beacon.pairing = on;
-        next.answers(Answer::Taken)
+        self = self.clock_step(clock);
+        self.beacon.pairing = on;
+        self.answers(Answer::Taken)
     }
 
-    pub fn address_rotated(self, ble: Address, salt: [u8; 2], clock: Moment) -> Outcome
+    pub fn address_rotated(mut self, ble: Address, salt: [u8; 2], clock: Moment) -> Outcome
         requires { ⌜ Valid self ⌝ }
         ensures { λ r. ⌜ r ≡ rule.addressRotated self ble salt (clock .0) .gives ⌝ }
     {
@@ -177,18 +178,18 @@ impl Device {
         if clock.0 < stored.0 {
             return self.went_back();
         }
-        let mut next = self.clock_step(clock);
-        let pairing = next.beacon.pairing;
+        self = self.clock_step(clock);
+        let pairing = self.beacon.pairing;
         let beacon = Beacon {
             ble: ble,
             salt: salt,
             pairing: pairing,
         };
-        next.beacon = beacon;
-        next.answers(Answer::Taken)
+        self.beacon = beacon;
+        self.answers(Answer::Taken)
     }
 
-    pub fn factory_reset(self, clock: Moment) -> Outcome
+    pub fn factory_reset(mut self, clock: Moment) -> Outcome
         requires { ⌜ Valid self ⌝ }
         ensures { λ r. ⌜ r ≡ rule.factoryReset self (clock .0) .gives ⌝ }
     {
@@ -196,10 +197,10 @@ impl Device {
         if clock.0 < stored.0 {
             return self.went_back();
         }
-        let mut next = self.clock_step(clock).drop_all();
-        next.guard = Guard::new();
-        next.keys = AccountKeys::none();
-        next.answers(Answer::Taken)
+        self = self.clock_step(clock).drop_all();
+        self.guard = Guard::new();
+        self.keys = AccountKeys::none();
+        self.answers(Answer::Taken)
     }
 
     // The advertising payload. Asking changes nothing and needs no clock.
@@ -224,7 +225,7 @@ impl Device {
         keys.write(out)
     }
 
-    fn link_changed(self, link: Link, clock: Moment) -> Outcome
+    fn link_changed(mut self, link: Link, clock: Moment) -> Outcome
         requires { ⌜ Valid self ⌝ }
         ensures { λ r. ⌜ r ≡ rule.linkChanged self (link .0) (clock .0) .gives ⌝ }
     {
@@ -235,7 +236,8 @@ impl Device {
         if clock.0 < stored.0 {
             return self.went_back();
         }
-        self.clock_step(clock).drop_at(link).answers(Answer::Taken)
+        self = self.clock_step(clock).drop_at(link);
+        self.answers(Answer::Taken)
     }
 
     // An answer that hands out nothing.

@@ -22,7 +22,7 @@ ghost use Rattle.provider.specs.Device.{withKeys, confirmed};
 ghost use Rattle.provider.specs.Pairing as rule;
 
 impl Device {
-    pub fn pairing_started(self, link: Link, clock: Moment, capability: u8) -> Outcome
+    pub fn pairing_started(mut self, link: Link, clock: Moment, capability: u8) -> Outcome
         requires { ⌜ Valid self ⌝ }
         ensures { λ r. ⌜ r ≡ rule.pairingStarted self (link .0) (clock .0) capability .gives ⌝ }
     {
@@ -33,8 +33,8 @@ impl Device {
         if clock.0 < stored.0 {
             return self.went_back();
         }
-        self.clock_step(clock)
-            .begin_pairing(link, clock, capability)
+        self = self.clock_step(clock);
+        self.begin_pairing(link, clock, capability)
     }
 
     fn begin_pairing(self, link: Link, clock: Moment, capability: u8) -> Outcome
@@ -58,7 +58,7 @@ impl Device {
             .answers(Answer::Taken)
     }
 
-    pub fn confirmation_needed(self, link: Link, clock: Moment, passkey: u32) -> Outcome
+    pub fn confirmation_needed(mut self, link: Link, clock: Moment, passkey: u32) -> Outcome
         requires { ⌜ Valid self ⌝ }
         ensures { λ r. ⌜ r ≡ rule.confirmationNeeded self (link .0) (clock .0) passkey .gives ⌝ }
     {
@@ -72,7 +72,8 @@ impl Device {
         if clock.0 < stored.0 {
             return self.went_back();
         }
-        self.clock_step(clock).show_passkey(link, clock, passkey)
+        self = self.clock_step(clock);
+        self.show_passkey(link, clock, passkey)
     }
 
     fn show_passkey(self, link: Link, clock: Moment, passkey: u32) -> Outcome
@@ -96,7 +97,7 @@ impl Device {
         self.with_session(link, shown).answers(Answer::Taken)
     }
 
-    pub fn pairing_ended(self, link: Link, clock: Moment, success: bool) -> Outcome
+    pub fn pairing_ended(mut self, link: Link, clock: Moment, success: bool) -> Outcome
         requires { ⌜ Valid self ⌝ }
         ensures { λ r. ⌜ r ≡ rule.pairingEnded self (link .0) (clock .0) success .gives ⌝ }
     {
@@ -107,10 +108,11 @@ impl Device {
         if clock.0 < stored.0 {
             return self.went_back();
         }
+        self = self.clock_step(clock);
         if success {
-            return self.clock_step(clock).pair(link, clock);
+            return self.pair(link, clock);
         }
-        self.clock_step(clock).give_up(link)
+        self.give_up(link)
     }
 
     fn pair(self, link: Link, clock: Moment) -> Outcome
@@ -140,7 +142,7 @@ impl Device {
         self.drop_at(link).answers(Answer::Taken)
     }
 
-    pub fn account_key_write(self, link: Link, clock: Moment, block: &[u8]) -> Outcome
+    pub fn account_key_write(mut self, link: Link, clock: Moment, block: &[u8]) -> Outcome
         requires { ⌜ Valid self ⌝ }
         ensures { λ r. ⌜ r ≡ rule.accountKeyWrite self (link .0) (clock .0) (now (block .entry)) .gives ⌝ }
     {
@@ -151,7 +153,8 @@ impl Device {
         if clock.0 < stored.0 {
             return self.went_back();
         }
-        self.clock_step(clock).keep_key(link, block)
+        self = self.clock_step(clock);
+        self.keep_key(link, block)
     }
 
     // K is dropped, whatever becomes of the block.
@@ -189,7 +192,7 @@ impl Device {
     }
 
     pub fn passkey_write(
-        self,
+        mut self,
         link: Link,
         clock: Moment,
         block: &[u8],
@@ -210,8 +213,8 @@ impl Device {
         if clock.0 < stored.0 {
             return self.went_back();
         }
-        self.clock_step(clock)
-            .prove_passkey(link, clock, block, salt, out)
+        self = self.clock_step(clock);
+        self.prove_passkey(link, clock, block, salt, out)
     }
 
     fn prove_passkey(

@@ -29,7 +29,7 @@ ghost use Rattle.provider.specs.Steps.{settles};
 
 impl Device {
     pub fn key_based_write(
-        self,
+        mut self,
         link: Link,
         clock: Moment,
         request: &[u8],
@@ -54,8 +54,8 @@ impl Device {
         if clock.0 < stored.0 {
             return self.went_back();
         }
-        self.clock_step(clock)
-            .try_request(link, clock, request, element, salt, out)
+        self = self.clock_step(clock);
+        self.try_request(link, clock, request, element, salt, out)
     }
 
     // On a known link, after the clock step.

@@ -30,8 +30,8 @@ returns-3 c =
     c .pair .ensures ∙ rw (
       le-ltb 7 (c .before .before .before .before .before .before .before .before .before .args .link .0)
           (c .before .before .before .before .before .before .before .if1 .left),
-      c .before .before .if3 .taken,
-      c .before .clock-step .ensures,
+      c .before .if3 .taken,
+      c .before .before .clock-step .ensures,
     ) (sym (ap (λ (x : Effect). x .gives)
     (goes-on (c .before .before .before .before .before .before .before .before .before .args .self)
     (c .before .before .before .before .before .before .before .before .before .args .clock .0) [] _
@@ -43,8 +43,8 @@ returns-4 c =
     c .give-up .ensures ∙ rw (
       le-ltb 7 (c .before .before .before .before .before .before .before .before .before .args .link .0)
           (c .before .before .before .before .before .before .before .if1 .left),
-      c .before .before .if3 .left,
-      c .before .clock-step2 .ensures,
+      c .before .if3 .left,
+      c .before .before .clock-step .ensures,
     ) (sym (ap (λ (x : Effect). x .gives)
     (goes-on (c .before .before .before .before .before .before .before .before .before .args .self)
     (c .before .before .before .before .before .before .before .before .before .args .clock .0) [] _
@@ -61,6 +61,5 @@ pairing-ended-spec =
     (λ c κs. search needs)
     (λ c κs. search needs)
     returns-3
-    (λ c κs. search needs)
     (λ c κs. search needs)
     returns-4)
