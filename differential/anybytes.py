@@ -60,7 +60,7 @@ class AnyBytes:
         return [name for name in names if not self.tried[name]]
 
     def refused(self, device, kinds):
-        """ "refused with FP_NOT_A_DEVICE"; "it comes back as it was, nothing is written" """
+        """ "the fp_device handed in is none; it comes back as it was, nothing is written" """
         fault = self.random.choice(faults.NO_DEVICE)
         spoiled = faults.copy(device)
         fault(self.random, spoiled)
@@ -76,7 +76,7 @@ class AnyBytes:
         return None if expected == found else differs(fault, "questions", spoiled, expected, found)
 
     def ignored(self, device, kinds):
-        """ "the bytes of places that are not in use do not count, and come back as zeros" """
+        """ "Not looked at, and zero in the device that comes back" """
         place = self.random.choice(faults.NOT_IN_USE)
         spoiled = faults.copy(device)
         if not place(self.random, spoiled):
