@@ -5,8 +5,8 @@ import faulthandler
 import sys
 import time
 
-from . import twofit
-from .anybytes import AnyBytes
+from . import two_keys_fit
+from .any_bytes import AnyBytes
 from .library import load
 from .report import archive, failed, reached
 from .runs import Failure, runs
@@ -43,8 +43,8 @@ def compare(library, options):
 
 def requests_of_two(library, seed):
     """A Failure of requests that two keys fit, or None."""
-    found = twofit.difference(library, seed)
-    print(f"{twofit.LISTS:>7}  lists with a request that two keys fit")
+    found = two_keys_fit.difference(library, seed)
+    print(f"{two_keys_fit.LISTS:>7}  lists with a request that two keys fit")
     return Failure(f"{seed}, two keys fit", *found) if found else None
 
 

@@ -3,15 +3,15 @@
 from dataclasses import dataclass, fields
 from random import Random
 
-from reference.advertising import advertisement
-from reference.events import PowerOn, Reply
-from reference.lent import put_or_refuse
-from reference.model import step
-from reference.stored_list import stored_list
+from reference.rules.advertising import advertisement
+from reference.rules.events import PowerOn, Reply
+from reference.rules.lent_output import put_or_refuse
+from reference.rules.model import step
+from reference.rules.stored_list import stored_list
 
-from .image import image
-from .lent import Spoiled
-from .view import unlike, values
+from .expected_device import expected_values
+from .guarded_memory import InterfaceViolation
+from .struct_values import differing, values
 
 REPLY = tuple(field.name for field in fields(Reply))
 
@@ -40,37 +40,37 @@ class Pair:
         try:
             self.device, found = self.library.step(self.device, event)
             difference = reply(expected, found) or self.state(expected, found) or self.questions()
-        except Spoiled as spoiled:
-            difference = Difference("memory or reply", expected, str(spoiled))
+        except InterfaceViolation as violation:
+            difference = Difference("memory or reply", expected, str(violation))
         return expected, difference
 
     def state(self, *replies):
         """Every field of fp_device; next.stored is among them. The replies are shown beside it."""
-        expected, found = image(self.reference), values(self.device)
+        expected, found = expected_values(self.reference), values(self.device)
         if expected == found:
             return None
-        sides = zip(unlike(expected, found), replies or ("", ""))
+        sides = zip(differing(expected, found), replies or ("", ""))
         return Difference("state", *sides)
 
     def questions(self):
         """The stored list and both forms of the payload, of a device that power-on has made."""
         if self.reference is None:
             return None
-        return self.list_asked() or self.payload_asked(0) or self.payload_asked(self.hide())
+        return self.compare_list() or self.compare_payload(0) or self.compare_payload(self.hide())
 
     def hide(self):
         """ "any other number to hide it" """
         return self.random.choice((1, 2, 128, 255))
 
-    def list_asked(self):
+    def compare_list(self):
         text = stored_list(self.reference)
-        return self.asked("stored list", text, self.library.stored_list)
+        return self.compare_output("stored list", text, self.library.stored_list)
 
-    def payload_asked(self, hide):
+    def compare_payload(self, hide):
         text = advertisement(self.reference, bool(hide))
-        return self.asked(f"payload, hide {hide}", text, self.library.advertisement, hide)
+        return self.compare_output(f"payload, hide {hide}", text, self.library.advertisement, hide)
 
-    def asked(self, what, text, ask, *arguments):
+    def compare_output(self, what, text, ask, *arguments):
         """The text into outputs that have room for it, and into one that lacks a byte."""
         for size in (len(text) + self.random.randrange(40), len(text) - 1, self.too_short(text)):
             out = self.random.randbytes(size)

@@ -65,7 +65,7 @@ def names_in_header():
     return set(re.findall(r"^} (fp_\w+);", HEADER.read_text(), re.MULTILINE))
 
 
-def with_gaps():
+def with_padding():
     """The structs with bytes that belong to no field: what was dropped could stand in them."""
     sizes = {name: [field.size for field in fields(struct)] for name, struct in BY_NAME.items()}
     return [name for name, each in sizes.items() if sum(each) != sizeof(BY_NAME[name])]
@@ -76,11 +76,11 @@ def fields(struct):
 
 
 def check_layout():
-    """Raise if a struct is missing or has gaps, or a size or a place is another one in C."""
+    """Raise if a struct is missing or has padding, or a size or a place is another one in C."""
     if names_in_header() != set(BY_NAME):
         raise WrongLayout(f"other structs: {names_in_header() ^ set(BY_NAME)}")
-    if with_gaps():
-        raise WrongLayout(f"bytes that belong to no field: {with_gaps()}")
+    if with_padding():
+        raise WrongLayout(f"bytes that belong to no field: {with_padding()}")
     table = expected()
     for (expression, ours), theirs in zip(table.items(), by_the_compiler(table)):
         if ours != theirs:

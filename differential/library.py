@@ -1,13 +1,13 @@
-"""The built library with the face of the reference."""
+"""The built library, called with the events of the reference."""
 
 from ctypes import c_uint8
 
-from reference import events
-from reference.events import Reply
+from reference.rules import events
+from reference.rules.events import Reply
 
 from .bindings import bind
 from .build import build
-from .lent import Lent, Spoiled
+from .guarded_memory import GuardedMemory, InterfaceViolation
 from .structs import FpAddress, FpElement, FpIdentity, FpStart
 
 CONFIRM = {0: None, 1: True, 2: False}
@@ -19,31 +19,31 @@ class Library:
 
     def __init__(self, functions):
         self.functions = functions
-        self.input = Lent("request, block or list")
-        self.salt = Lent("salt")
-        self.output = Lent("output")
+        self.input = GuardedMemory("request, block or list")
+        self.salt = GuardedMemory("salt")
+        self.output = GuardedMemory("output")
 
     def off(self):
         """The value before any device."""
         return self.functions["fp_off"]()
 
     def step(self, device, event):
-        """The next fp_device and the reply; Spoiled if memory was written that was not lent."""
+        """The next fp_device and the reply; raises if memory was written that was not lent."""
         return CALLS[type(event)](self, device, event)
 
     def stored_list(self, device, out):
         """The answer, the number of bytes written and the output afterwards."""
         address = self.output.lend_or_null(out)
-        return self.told(self.functions["fp_stored_list"](device, address, len(out)))
+        return self.report(self.functions["fp_stored_list"](device, address, len(out)))
 
     def advertisement(self, device, hide, out):
         """The same; `hide` is a number."""
         address = self.output.lend_or_null(out)
-        return self.told(self.functions["fp_advertisement"](device, hide, address, len(out)))
+        return self.report(self.functions["fp_advertisement"](device, hide, address, len(out)))
 
-    def told(self, report):
+    def report(self, report):
         check_zero(report.reserved)
-        return report.answer, report.length, self.output.back()
+        return report.answer, report.length, self.output.bytes_after()
 
     def call(self, name, device, *arguments):
         """An event that lends no output."""
@@ -51,14 +51,14 @@ class Library:
         check_zero(outcome.reserved)
         return outcome.next, reply_of(outcome.reply, b"")
 
-    def read(self, name, device, head, data, tail=()):
+    def call_with_input(self, name, device, head, data, tail=()):
         """An event with an input of any length, and no output."""
         address = self.input.lend_or_null(data)
         result = self.call(name, device, *head, address, len(data), *tail)
         self.input.check_kept(data)
         return result
 
-    def answer(self, name, device, event, data, element):
+    def call_with_output(self, name, device, event, data, element):
         """An event with an input, a salt and a lent output."""
         address = self.input.lend_or_null(data)
         salt = self.salt.lend(event.salt)
@@ -69,7 +69,7 @@ class Library:
         self.input.check_kept(data)
         self.salt.check_kept(event.salt)
         check_zero(outcome.reserved)
-        return outcome.next, reply_of(outcome.reply, self.output.back())
+        return outcome.next, reply_of(outcome.reply, self.output.bytes_after())
 
 
 def load():
@@ -80,32 +80,32 @@ def load():
 def check_zero(reserved):
     """What is reserved holds nothing, and so nothing that was dropped."""
     if any(reserved):
-        raise Spoiled(f"reserved bytes {bytes(reserved).hex()}")
+        raise InterfaceViolation(f"reserved bytes {bytes(reserved).hex()}")
 
 
 def reply_of(reply, out):
-    """The reply in the reference's form; values that the header doesn't know raise Spoiled."""
+    """The reply in the reference's form; values that the header doesn't know raise InterfaceViolation."""
     bond = bytes(reply.bond.address.bytes)
     wanted = reply.bond.wanted
     if wanted > 1 or reply.confirm > 2 or (not wanted and bond != NO_ADDRESS):
-        raise Spoiled(f"wanted {wanted}, bond {bond.hex()}, confirm {reply.confirm}")
+        raise InterfaceViolation(f"wanted {wanted}, bond {bond.hex()}, confirm {reply.confirm}")
     return Reply(reply.answer, reply.tried, bond if wanted else None, CONFIRM[reply.confirm], out)
 
 
-def row(data):
+def array(data):
     """Bytes as an array of C."""
     return (c_uint8 * len(data))(*data)
 
 
-def truth(flag, clock):
+def flag_byte(flag, clock):
     """ "any other number for on": each of them comes by, and a replay gets the same."""
     return 1 + clock % 255 if flag else 0
 
 
 def power_on(library, device, event):
-    identity = FpIdentity(FpAddress(row(event.public)), row(event.model))
-    start = FpStart(identity, FpAddress(row(event.ble)), row(event.salt))
-    return library.read("fp_power_on", device, (), event.stored, (start,))
+    identity = FpIdentity(FpAddress(array(event.public)), array(event.model))
+    start = FpStart(identity, FpAddress(array(event.ble)), array(event.salt))
+    return library.call_with_input("fp_power_on", device, (), event.stored, (start,))
 
 
 def overflow(library, device, event):
@@ -121,12 +121,12 @@ def link_down(library, device, event):
 
 
 def pairing_mode(library, device, event):
-    return library.call("fp_pairing_mode", device, truth(event.on, event.clock), event.clock)
+    return library.call("fp_pairing_mode", device, flag_byte(event.on, event.clock), event.clock)
 
 
 def address_rotated(library, device, event):
     salt = library.salt.lend(event.salt)
-    ble = FpAddress(row(event.ble))
+    ble = FpAddress(array(event.ble))
     result = library.call("fp_address_rotated", device, ble, salt, event.clock)
     library.salt.check_kept(event.salt)
     return result
@@ -137,8 +137,8 @@ def factory_reset(library, device, event):
 
 
 def key_based_write(library, device, event):
-    element = FpElement(truth(event.accepted, event.clock), row(event.secret))
-    return library.answer("fp_key_based_write", device, event, event.data, (element,))
+    element = FpElement(flag_byte(event.accepted, event.clock), array(event.secret))
+    return library.call_with_output("fp_key_based_write", device, event, event.data, (element,))
 
 
 def pairing_started(library, device, event):
@@ -150,16 +150,16 @@ def confirmation_needed(library, device, event):
 
 
 def passkey_write(library, device, event):
-    return library.answer("fp_passkey_write", device, event, event.block, ())
+    return library.call_with_output("fp_passkey_write", device, event, event.block, ())
 
 
 def pairing_ended(library, device, event):
-    success = truth(event.success, event.clock)
+    success = flag_byte(event.success, event.clock)
     return library.call("fp_pairing_ended", device, event.link, event.clock, success)
 
 
 def account_key_write(library, device, event):
-    return library.read("fp_account_key_write", device, (event.link, event.clock), event.block)
+    return library.call_with_input("fp_account_key_write", device, (event.link, event.clock), event.block)
 
 
 CALLS = {

@@ -2,8 +2,8 @@
 
 import hashlib
 
-from reference.coverage import table
-from reference.shrink import shrink
+from reference.generator.coverage import table
+from reference.generator.shrink import shrink
 
 from .compare import first_difference
 from .paths import ARCHIVE, ROOT
@@ -16,16 +16,16 @@ def archive():
 
 
 def reached(tally):
-    """Answers, stages, landmarks and spoiled devices, counted."""
+    """Answers, stages, rare cases and corrupted devices, counted."""
     lines = [table(tally.coverage)]
-    lines += [f"{times:>7}  {name}" for name, times in tally.landmarks.counts.items()]
-    spoiled = sorted(tally.any_bytes.tried.items())
-    lines += [f"{times:>7}  any bytes: {name}" for name, times in spoiled]
+    lines += [f"{times:>7}  {name}" for name, times in tally.rare_cases.counts.items()]
+    corrupted = sorted(tally.any_bytes.tried.items())
+    lines += [f"{times:>7}  any bytes: {name}" for name, times in corrupted]
     return "\n".join(lines)
 
 
 def shortest(library, failure):
-    """The shortest list that still differs; empty if it takes a spoiled device to show it."""
+    """The shortest list that still differs; empty if it takes a corrupted device to show it."""
     def fails(events):
         return first_difference(library, events) is not None
 
@@ -39,7 +39,7 @@ def failed(library, failure):
     lines = [f"DIFFERENCE in run {failure.seed} at event {len(failure.events)}"]
     if events:
         listed = [f"    {event!r}," for event in events]
-        lines += ["from reference.events import *", "events = [", *listed, "]"]
+        lines += ["from reference.rules.events import *", "events = [", *listed, "]"]
     lines.append(f"differs: {difference.what}")
     lines.append(f"reference: {difference.reference}")
     lines.append(f"library:   {difference.library}")

@@ -2,15 +2,15 @@
 
 from dataclasses import dataclass, field
 
-from reference.coverage import Coverage, not_reached
-from reference.generate import Generator
-from reference.landmarks import Landmarks
+from reference.generator.coverage import Coverage, not_reached
+from reference.generator.generate import Generator
+from reference.generator.rare_cases import RareCases
 
-from .anybytes import AnyBytes
+from .any_bytes import AnyBytes
 from .compare import Difference, Pair
 
-# Spoiled devices are tried at every so many events.
-SPOIL_EVERY = 10
+# Corrupted devices are tried at every so many events.
+CORRUPT_EVERY = 10
 
 
 @dataclass(frozen=True)
@@ -28,24 +28,24 @@ class Tally:
 
     any_bytes: AnyBytes | None
     coverage: Coverage = field(default_factory=Coverage)
-    landmarks: Landmarks = field(default_factory=Landmarks)
+    rare_cases: RareCases = field(default_factory=RareCases)
     events: int = 0
     runs: int = 0
 
     def note(self, before, event, after, reply):
         self.events += 1
         self.coverage.note(before, event, after, reply)
-        self.landmarks.note(before, event, after, reply)
+        self.rare_cases.note(before, event, after, reply)
 
     def missed(self):
-        """The answers, stages and spoiled places that no run has reached."""
+        """The answers, stages and corrupted places that no run has reached."""
         answers, stages = not_reached(self.coverage)
-        spoiled = self.any_bytes.never_tried() if self.any_bytes else []
-        return [*answers, *stages, *spoiled]
+        never_tried = self.any_bytes.never_tried() if self.any_bytes else []
+        return [*answers, *stages, *never_tried]
 
-    def spoil(self, place, device, event):
-        """A difference of spoiled devices, now and then in a run."""
-        if self.any_bytes is None or place % SPOIL_EVERY:
+    def corrupt(self, place, device, event):
+        """A difference of corrupted devices, now and then in a run."""
+        if self.any_bytes is None or place % CORRUPT_EVERY:
             return None
         return self.any_bytes.check(device, event)
 
@@ -57,10 +57,10 @@ def run(library, seed, length, tally):
     while difference is None and len(events) < length:
         before = pair.reference
         event = generator.next_event(before)
-        spoiled = tally.spoil(len(events), pair.device, event)
+        with_corrupted = tally.corrupt(len(events), pair.device, event)
         events.append(event)
         reply, difference = pair.send(event)
-        difference = difference or spoiled
+        difference = difference or with_corrupted
         tally.note(before, event, pair.reference, reply)
     return Failure(seed, events, difference) if difference else None
 

@@ -1,11 +1,11 @@
 """Whether the comparison can fail: each mistake has to be found, and its list shortened."""
 
-from . import gaps, spoilers
-from .anybytes import AnyBytes
+from . import marked_lists, result_mistakes
+from .any_bytes import AnyBytes
 from .compare import first_difference
 from .report import shortest
+from .result_mistakes import with_mistakes
 from .runs import runs
-from .spoilers import spoiled
 
 EVENTS = 6_000
 LIST = 300
@@ -14,49 +14,49 @@ SHORT = 20
 
 # The function, the mistake in its results, and how the difference is called.
 MISTAKES = (
-    ("fp_key_based_write", spoilers.another_answer, "reply: answer"),
-    ("fp_key_based_write", spoilers.one_more_tried, "reply: tried"),
-    ("fp_key_based_write", spoilers.no_bond, "reply: bond"),
-    ("fp_key_based_write", spoilers.bond_left_in, "memory or reply"),
-    ("fp_key_based_write", spoilers.response_byte, "reply: out"),
-    ("fp_key_based_write", spoilers.behind_response, "reply: out"),
-    ("fp_key_based_write", spoilers.behind_output, "memory or reply"),
-    ("fp_key_based_write", spoilers.before_output, "memory or reply"),
-    ("fp_key_based_write", spoilers.input_written, "memory or reply"),
-    ("fp_passkey_write", spoilers.confirm_turned, "reply: confirm"),
-    ("fp_passkey_write", spoilers.response_byte, "reply: out"),
-    ("fp_passkey_write", spoilers.written_on_refusal, "reply: out"),
-    ("fp_account_key_write", spoilers.next_stored, "state"),
-    ("fp_link_down", spoilers.key_left_behind, "state"),
-    ("fp_overflow", spoilers.marker_ignored, "state"),
-    ("fp_overflow", spoilers.marker_spares_link_7, "state"),
-    ("fp_factory_reset", spoilers.salts_kept, "state"),
-    ("fp_stored_list", spoilers.stored_list_byte, "stored list"),
-    ("fp_stored_list", spoilers.stored_list_length, "stored list"),
-    ("fp_stored_list", spoilers.short_list_written, "stored list"),
-    ("fp_advertisement", spoilers.filter_bit, "payload"),
-    ("fp_advertisement", spoilers.prompt_shown, "payload"),
+    ("fp_key_based_write", result_mistakes.another_answer, "reply: answer"),
+    ("fp_key_based_write", result_mistakes.one_more_tried, "reply: tried"),
+    ("fp_key_based_write", result_mistakes.bond_withheld, "reply: bond"),
+    ("fp_key_based_write", result_mistakes.bond_not_zero, "memory or reply"),
+    ("fp_key_based_write", result_mistakes.response_byte, "reply: out"),
+    ("fp_key_based_write", result_mistakes.behind_response, "reply: out"),
+    ("fp_key_based_write", result_mistakes.behind_output, "memory or reply"),
+    ("fp_key_based_write", result_mistakes.before_output, "memory or reply"),
+    ("fp_key_based_write", result_mistakes.input_written, "memory or reply"),
+    ("fp_passkey_write", result_mistakes.confirm_inverted, "reply: confirm"),
+    ("fp_passkey_write", result_mistakes.response_byte, "reply: out"),
+    ("fp_passkey_write", result_mistakes.written_on_refusal, "reply: out"),
+    ("fp_account_key_write", result_mistakes.next_stored, "state"),
+    ("fp_link_down", result_mistakes.key_byte_kept, "state"),
+    ("fp_overflow", result_mistakes.marker_ignored, "state"),
+    ("fp_overflow", result_mistakes.marker_keeps_link_7, "state"),
+    ("fp_factory_reset", result_mistakes.salts_kept, "state"),
+    ("fp_stored_list", result_mistakes.stored_list_byte, "stored list"),
+    ("fp_stored_list", result_mistakes.stored_list_length, "stored list"),
+    ("fp_stored_list", result_mistakes.short_list_written, "stored list"),
+    ("fp_advertisement", result_mistakes.filter_bit, "payload"),
+    ("fp_advertisement", result_mistakes.prompt_shown, "payload"),
 )
-# These show in spoiled devices alone, and there is no list of events to shorten.
+# These show in corrupted devices alone, and there is no list of events to shorten.
 WITH_ANY_BYTES = (
-    ("fp_link_up", spoilers.no_device_taken, "any bytes"),
-    ("fp_key_based_write", spoilers.no_device_changed, "any bytes"),
-    ("fp_link_up", spoilers.not_cleaned, "any bytes"),
+    ("fp_link_up", result_mistakes.no_device_taken, "any bytes"),
+    ("fp_key_based_write", result_mistakes.no_device_changed, "any bytes"),
+    ("fp_link_up", result_mistakes.unused_key_kept, "any bytes"),
 )
 # These are looked for by the two runs of demand 3.
-WITH_GAPS = (
-    ("fp_overflow", spoilers.marker_ignored, "after a marker"),
-    ("fp_overflow", spoilers.marker_spares_link_7, "after a marker"),
-    ("fp_overflow", spoilers.marker_frees_salts, "two runs"),
-    ("fp_overflow", spoilers.marker_counts_anew, "two runs"),
-    ("fp_overflow", spoilers.marker_forgets_keys, "two runs"),
-    ("fp_passkey_write", spoilers.written_on_9, "two runs"),
+WITH_TWO_RUNS = (
+    ("fp_overflow", result_mistakes.marker_ignored, "after a marker"),
+    ("fp_overflow", result_mistakes.marker_keeps_link_7, "after a marker"),
+    ("fp_overflow", result_mistakes.marker_clears_salts, "two runs"),
+    ("fp_overflow", result_mistakes.marker_clears_count, "two runs"),
+    ("fp_overflow", result_mistakes.marker_empties_list, "two runs"),
+    ("fp_passkey_write", result_mistakes.written_on_9, "two runs"),
 )
 
 
 def in_lists(library, name, mistake, called):
     """Found, called right, and shown by a short list; a text that says so, or None."""
-    wrong = spoiled(library, {name: mistake})
+    wrong = with_mistakes(library, {name: mistake})
     _, failure = runs(wrong, 1, EVENTS, LIST)
     if failure is None or not failure.difference.what.startswith(called):
         return None
@@ -68,19 +68,20 @@ def in_lists(library, name, mistake, called):
 
 
 def in_any_bytes(library, name, mistake, called):
-    wrong = spoiled(library, {name: mistake})
+    wrong = with_mistakes(library, {name: mistake})
     _, failure = runs(wrong, 1, EVENTS, LIST, AnyBytes(wrong, 1))
     found = failure is not None and failure.difference.what.startswith(called)
     return f"found after {len(failure.events)} events" if found else None
 
 
-def in_gaps(library, name, mistake, called):
-    wrong = spoiled(library, {name: mistake})
-    _, failure = gaps.pairs(wrong, 1, EVENTS)
+def in_two_runs(library, name, mistake, called):
+    wrong = with_mistakes(library, {name: mistake})
+    _, failure = marked_lists.run_pairs(wrong, 1, EVENTS)
     if failure is None or not failure.what.startswith(called):
         return None
-    entries = gaps.shortest(wrong, failure)
-    if not gaps.broken(wrong, entries) or gaps.broken(library, entries) or len(entries) > SHORT:
+    entries = marked_lists.shortest(wrong, failure)
+    fails_still = marked_lists.breach(wrong, entries) and not marked_lists.breach(library, entries)
+    if not fails_still or len(entries) > SHORT:
         return None
     return f"found in {len(failure.entries)} events, shortened to {len(entries)}"
 
@@ -88,7 +89,7 @@ def in_gaps(library, name, mistake, called):
 def selftest(library):
     """The exit code: 1 if a mistake was not found."""
     missed = 0
-    ways = {in_lists: MISTAKES, in_any_bytes: WITH_ANY_BYTES, in_gaps: WITH_GAPS}
+    ways = {in_lists: MISTAKES, in_any_bytes: WITH_ANY_BYTES, in_two_runs: WITH_TWO_RUNS}
     for look, mistakes in ways.items():
         for name, mistake, called in mistakes:
             found = look(library, name, mistake, called)

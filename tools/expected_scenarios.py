@@ -2,7 +2,7 @@
 """What the program `scenarios` must print, and the blocks that its phones write.
 
 Both come from reference/, the model of document 01 in Python: the phones' blocks from plain fields by
-reference/seeker.py, the lines by running the same stories on reference/model.py. None of this reads our code.
+reference/generator/seeker_blocks.py, the lines by running the same stories on reference/rules/model.py. None of this reads our code.
 
   expected_scenarios.py          write crates/scenarios/stdout and crates/scenarios/src/blocks.rt
   expected_scenarios.py --check  exit 1 unless both files are what this computes
@@ -13,8 +13,9 @@ import sys
 ROOT = pathlib.Path(__file__).resolve().parent.parent
 sys.path.insert(0, str(ROOT))
 
-from reference import model, seeker  # noqa: E402
-from reference.events import (  # noqa: E402
+from reference.generator import seeker_blocks as seeker  # noqa: E402
+from reference.rules import advertising, model, stored_list  # noqa: E402
+from reference.rules.events import (  # noqa: E402
     AccountKeyWrite,
     AddressRotated,
     ConfirmationNeeded,
@@ -135,11 +136,11 @@ class Story:
         self.events(PowerOn(stored(owners), PUBLIC, BLE, MODEL, SALT))
 
     def stored_list(self):
-        self.tell("stored-list", dash(model.stored_list(self.device)))
+        self.tell("stored-list", dash(stored_list.stored_list(self.device)))
 
     def payloads(self):
-        self.tell("payload-show", dash(model.advertisement(self.device, False)))
-        self.tell("payload-hide", dash(model.advertisement(self.device, True)))
+        self.tell("payload-show", dash(advertising.advertisement(self.device, False)))
+        self.tell("payload-hide", dash(advertising.advertisement(self.device, True)))
 
     def tell(self, *words):
         self.lines.append(" ".join(map(str, (self.name, *words))))

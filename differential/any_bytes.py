@@ -1,0 +1,120 @@
+"""Any bytes as a device: some get 255, and those in places that are not in use don't count."""
+
+from collections import Counter
+from random import Random
+
+from reference.rules import events
+from reference.rules.events import Reply
+
+from . import corrupted_device
+from .compare import Difference
+from .guarded_memory import InterfaceViolation
+from .struct_values import differing, values
+
+NOT_A_DEVICE = 255
+
+
+def one_of_each(random, clock):
+    """An event of every kind, with random bytes."""
+    link, data = random.randrange(8), random.randbytes
+    out, size = data(random.randrange(16, 40)), random.choice((16, 80))
+    return (
+        events.Overflow(),
+        events.LinkUp(link, clock),
+        events.LinkDown(link, clock),
+        events.PairingMode(random.random() < 0.5, clock),
+        events.AddressRotated(data(6), data(2), clock),
+        events.PowerOn(bytes((0, 2, 1, 0)), data(6), data(6), data(3), data(2)),
+        events.FactoryReset(clock),
+        events.KeyBasedWrite(link, clock, data(size), True, data(32), data(9), out),
+        events.PairingStarted(link, clock, 1),
+        events.ConfirmationNeeded(link, clock, 123_456),
+        events.PasskeyWrite(link, clock, data(16), data(12), out),
+        events.PairingEnded(link, clock, random.random() < 0.5),
+        events.AccountKeyWrite(link, clock, data(16)),
+    )
+
+
+class AnyBytes:
+    """Corrupts devices of a run and hands them to every function."""
+
+    def __init__(self, library, seed):
+        self.library = library
+        self.random = Random(seed)
+        self.tried = Counter()
+
+    def check(self, device, event):
+        """The first difference of this device, or None; the event is the run's next one."""
+        kinds = (event, *one_of_each(self.random, device.clock))
+        try:
+            return (
+                self.refused(device, kinds)
+                or self.ignored(device, kinds)
+                or self.answered(device, kinds)
+            )
+        except InterfaceViolation as violation:
+            return Difference("any bytes: memory or reply", "", str(violation))
+
+    def never_tried(self):
+        ways = (*corrupted_device.NO_DEVICE, *corrupted_device.NOT_IN_USE)
+        return [way.__name__ for way in ways if not self.tried[way.__name__]]
+
+    def refused(self, device, kinds):
+        """ "the fp_device handed in is none; it comes back as it was, nothing is written" """
+        fault = self.random.choice(corrupted_device.NO_DEVICE)
+        corrupted = corrupted_device.copy(device)
+        fault(self.random, corrupted)
+        self.tried[fault.__name__] += 1
+        for event in kinds:
+            expected = values(corrupted), Reply(NOT_A_DEVICE, out=getattr(event, "out", b""))
+            found = self.step(corrupted, event)
+            if expected != found:
+                return differs(fault, event, corrupted, expected, found)
+        out = self.random.randbytes(self.random.randrange(90))
+        expected = [(NOT_A_DEVICE, 0, out)] * 3
+        found = self.questions(corrupted, out)
+        return None if expected == found else differs(fault, "questions", corrupted, expected, found)
+
+    def ignored(self, device, kinds):
+        """ "Not looked at, and zero in the device that comes back" """
+        place = self.random.choice(corrupted_device.NOT_IN_USE)
+        corrupted = corrupted_device.copy(device)
+        if not place(self.random, corrupted):
+            return None
+        self.tried[place.__name__] += 1
+        for event in kinds:
+            expected, found = self.step(device, event), self.step(corrupted, event)
+            if expected != found:
+                return differs(place, event, corrupted, expected, found)
+        out = self.random.randbytes(self.random.randrange(90))
+        expected, found = self.questions(device, out), self.questions(corrupted, out)
+        return None if expected == found else differs(place, "questions", corrupted, expected, found)
+
+    def answered(self, device, kinds):
+        """ "Any bytes .. get one answer": one of the table, and what comes back is a device."""
+        odd = corrupted_device.copy(device)
+        corrupted_device.any_numbers(self.random, odd)
+        for event in kinds:
+            after, reply = self.library.step(odd, event)
+            _, again = self.library.step(after, events.Overflow())
+            if reply.answer > 14 or again.answer != 0:
+                return differs(corrupted_device.any_numbers, event, odd, "an answer up to 14", reply)
+        return None
+
+    def step(self, device, event):
+        after, reply = self.library.step(device, event)
+        return values(after), reply
+
+    def questions(self, device, out):
+        """The stored list and both forms of the payload."""
+        ask = self.library.advertisement
+        return [self.library.stored_list(device, out), ask(device, 0, out), ask(device, 1, out)]
+
+
+def differs(fault, event, device, expected, found):
+    """The difference, with the device's bytes."""
+    what = f"any bytes: {fault.__name__}, {event!r}, device {bytes(device).hex()}"
+    if isinstance(expected, tuple):
+        ours, theirs = differing(expected[0], found[0])
+        return Difference(what, (ours, expected[1]), (theirs, found[1]))
+    return Difference(what, expected, found)

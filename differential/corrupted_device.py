@@ -1,0 +1,126 @@
+"""Ways to corrupt an fp_device: bytes that are no device, and bytes in places that are not in use."""
+
+from ctypes import sizeof
+
+from reference.rules.stored_list import read_stored_list
+
+from .structs import LINKS, MOST_SALTS, STORED_LIST_MAX, FpDevice
+
+
+def copy(device):
+    """A device that can be changed without changing the first."""
+    return FpDevice.from_buffer_copy(device)
+
+
+# ---- bytes that are no device
+
+
+def many_salts(random, device):
+    device.spent.count = random.choice((17, 18, 255, 256, 2**32, 2**32 + 3, 2**64 - 1))
+
+
+def many_failures(random, device):
+    device.failures = random.choice((11, 12, 128, 255))
+
+
+def unknown_stage(random, device):
+    device.sessions[random.randrange(LINKS)].stage = random.choice((6, 7, 128, 255))
+
+
+def unknown_pairing(random, device):
+    device.pairing = random.choice((2, 3, 128, 255))
+
+
+def long_list(random, device):
+    device.stored.length = random.choice((85, 86, 255, 260, 2**32 + 4, 2**64 - 1))
+
+
+def other_length(random, device):
+    lengths = [n for n in range(STORED_LIST_MAX + 1) if n != device.stored.length]
+    device.stored.length = random.choice(lengths)
+
+
+def malformed_list(random, device):
+    """A byte of the header or the first byte of a key, or a key twice."""
+    stored = device.stored
+    while read_stored_list(bytes(stored.bytes[: stored.length])) is not None:
+        if stored.length >= 36 and random.random() < 0.3:
+            stored.bytes[20:36] = stored.bytes[4:20]
+        first_bytes = range(4, stored.length, 16)
+        stored.bytes[random.choice((0, 1, 2, 3, *first_bytes))] ^= 1 << random.randrange(8)
+
+
+def random_bytes(random, device):
+    """Its length of the stored list is above 84, as good as surely."""
+    memoryview(device).cast("B")[:] = random.randbytes(sizeof(FpDevice))
+
+
+NO_DEVICE = (
+    many_salts,
+    many_failures,
+    unknown_stage,
+    unknown_pairing,
+    long_list,
+    other_length,
+    malformed_list,
+    random_bytes,
+)
+
+
+# ---- places that are not in use; each says whether the device has such a place
+
+
+def idle_link(random, device):
+    idle = [session for session in device.sessions if session.stage == 0]
+    for session in idle:
+        session.key[:] = list(random.randbytes(16))
+        session.since, session.passkey = random.getrandbits(64), random.getrandbits(32)
+    return bool(idle)
+
+
+def free_salts(random, device):
+    spent = device.spent
+    for salt in spent.salts[spent.count :]:
+        salt.length = random.choice((0, 2, 8, 255))
+        salt.bytes[:] = list(random.randbytes(8))
+    return spent.count < MOST_SALTS
+
+
+def behind_list(random, device):
+    room = STORED_LIST_MAX - device.stored.length
+    device.stored.bytes[device.stored.length :] = list(random.randbytes(room))
+    return room > 0
+
+
+def no_failure(random, device):
+    if device.failures:
+        return False
+    device.failed_at = random.getrandbits(64)
+    return True
+
+
+def reserved(random, device):
+    for part in (device, device.stored, *device.sessions):
+        part.reserved[:] = list(random.randbytes(len(part.reserved)))
+    return True
+
+
+NOT_IN_USE = (idle_link, free_salts, behind_list, no_failure, reserved)
+
+
+# ---- numbers that the header bounds nowhere
+
+
+def any_numbers(random, device):
+    """Moments, passkeys, addresses and salts as no list of events would leave them."""
+    device.clock = random.choice((0, random.getrandbits(64), 2**64 - 1))
+    device.failed_at = random.choice((0, random.getrandbits(64), 2**64 - 1))
+    for session in device.sessions:
+        session.stage = random.randrange(6)
+        session.since = random.choice((0, random.getrandbits(64), 2**64 - 1))
+        session.passkey = random.getrandbits(32)
+        session.key[:] = list(random.randbytes(16))
+    for salt in device.spent.salts:
+        salt.length = random.randrange(256)
+    device.spent.count = random.randrange(MOST_SALTS + 1)
+    device.failures = random.randrange(11)

@@ -1,0 +1,168 @@
+"""Mistakes put into the library's results, to see that the comparison finds them."""
+
+from ctypes import c_uint8
+
+from .library import Library
+
+
+def with_mistakes(library, changes):
+    """The library with some functions whose results are changed after each call."""
+    functions = dict(library.functions)
+    for name, change in changes.items():
+        functions[name] = changed(library.functions[name], change)
+    return Library(functions)
+
+
+def changed(function, change):
+    def call(*arguments):
+        result = function(*arguments)
+        change(arguments, result)
+        return result
+
+    return call
+
+
+def flip(address, place):
+    """Change the lowest bit of a byte in lent memory."""
+    c_uint8.from_address(address + place).value ^= 1
+
+
+def answers(result, answer):
+    return result.reply.answer == answer
+
+
+def another_answer(arguments, result):
+    if answers(result, 8):
+        result.reply.answer = 7
+
+
+def one_more_tried(arguments, result):
+    result.reply.tried += answers(result, 7)
+
+
+def bond_withheld(arguments, result):
+    result.reply.bond.wanted = 0
+    result.reply.bond.address.bytes[:] = [0] * 6
+
+
+def bond_not_zero(arguments, result):
+    if answers(result, 0):
+        result.reply.bond.wanted = 0
+        result.reply.bond.address.bytes[0] = 1
+
+
+def confirm_inverted(arguments, result):
+    if result.reply.confirm:
+        result.reply.confirm ^= 3
+
+
+def response_byte(arguments, result):
+    if answers(result, 0):
+        flip(arguments[-2], 15)
+
+
+def behind_response(arguments, result):
+    if answers(result, 0) and arguments[-1] > 16:
+        flip(arguments[-2], 16)
+
+
+def behind_output(arguments, result):
+    if answers(result, 0):
+        flip(arguments[-2], arguments[-1])
+
+
+def before_output(arguments, result):
+    if answers(result, 0):
+        flip(arguments[-2], -1)
+
+
+def written_on_refusal(arguments, result):
+    if answers(result, 12):
+        flip(arguments[-2], 0)
+
+
+def written_on_9(arguments, result):
+    if answers(result, 9):
+        flip(arguments[-2], 0)
+
+
+def input_written(arguments, result):
+    if arguments[4] == 16:
+        flip(arguments[3], 7)
+
+
+def next_stored(arguments, result):
+    if answers(result, 0):
+        result.next.stored.bytes[19] ^= 1
+
+
+def stored_list_byte(arguments, report):
+    if report.length > 4:
+        flip(arguments[-2], report.length - 1)
+
+
+def stored_list_length(arguments, report):
+    report.length += report.answer == 0
+
+
+def short_list_written(arguments, report):
+    if report.answer == 13 and arguments[-1]:
+        flip(arguments[-2], 0)
+
+
+def filter_bit(arguments, report):
+    if report.length > 9:
+        flip(arguments[-2], 6)
+
+
+def prompt_shown(arguments, report):
+    if report.length > 9 and arguments[1] == 255:
+        c_uint8.from_address(arguments[-2] + 5).value &= 0xF0
+
+
+def key_byte_kept(arguments, result):
+    if answers(result, 0):
+        result.next.sessions[arguments[1]].key[15] = 1
+
+
+def marker_ignored(arguments, result):
+    result.next = arguments[0]
+
+
+def marker_keeps_link_7(arguments, result):
+    result.next.sessions[7] = arguments[0].sessions[7]
+
+
+def marker_clears_salts(arguments, result):
+    spent = result.next.spent
+    spent.count = 0
+
+
+def marker_clears_count(arguments, result):
+    result.next.failures = 0
+
+
+def marker_empties_list(arguments, result):
+    result.next.stored.length = 4
+    result.next.stored.bytes[:4] = [0, 2, 1, 0]
+
+
+def salts_kept(arguments, result):
+    if answers(result, 0):
+        result.next.spent = arguments[0].spent
+
+
+def no_device_taken(arguments, result):
+    if answers(result, 255):
+        result.reply.answer = 0
+
+
+def no_device_changed(arguments, result):
+    if answers(result, 255):
+        result.next.clock ^= 1
+
+
+def unused_key_kept(arguments, result):
+    for before, after in zip(arguments[0].sessions, result.next.sessions):
+        if not before.stage:
+            after.key = before.key

@@ -1,0 +1,124 @@
+"""The two runs of demand 3, in document 01's words, on the library alone."""
+
+from reference.rules.events import AccountKeyWrite, KeyBasedWrite, Overflow, PasskeyWrite, PowerOn
+from reference.rules.stored_list import read_stored_list
+
+from .guarded_memory import InterfaceViolation
+from .structs import STORED_LIST_MAX
+
+IDLE = 9
+# Every number that a link can have in C, those above 7 too.
+EVERY_LINK = frozenset(range(256))
+NEED_A_KEY = (PasskeyWrite, AccountKeyWrite)
+
+
+def first_device(library, entry):
+    """The device that a taken power-on gives, or None if this entry is none."""
+    event, added = entry
+    if added or not isinstance(event, PowerOn):
+        return None
+    device, reply = library.step(library.off(), event)
+    return device if reply.answer == 0 else None
+
+
+class Run:
+    """One run: its device, its list written out, and the links that wait for a request."""
+
+    def __init__(self, library, device):
+        self.library = library
+        self.device = device
+        self.list = self.written()
+        self.waiting = frozenset()
+
+    def written(self):
+        """The stored list, written out."""
+        _, length, out = self.library.stored_list(self.device, bytes(STORED_LIST_MAX))
+        return out[:length]
+
+    def send(self, event):
+        """The reply, and the keys that the event stored."""
+        before = keys(self.list)
+        self.device, reply = self.library.step(self.device, event)
+        self.list = self.written()
+        return reply, keys(self.list) - before
+
+    def taken_after_marker(self, event, reply, stored, counts):
+        """What was taken on a link after a marker and before a request, or None."""
+        link = getattr(event, "link", None)
+        if isinstance(event, Overflow):
+            self.waiting = EVERY_LINK
+        elif isinstance(event, KeyBasedWrite) and reply.answer == 0:
+            self.waiting -= {link}
+        elif isinstance(event, NEED_A_KEY) and link in self.waiting:
+            counts["writes after a marker"] += 1
+            if reply.answer == 0 or stored:
+                return f"after a marker and no request on link {link}: {event} got {reply}"
+        return None
+
+
+class RunPair:
+    """Both runs, from the same device."""
+
+    def __init__(self, library, device, counts):
+        self.first = Run(library, device)
+        self.second = Run(library, device)
+        self.counts = counts
+        self.parted = False
+
+    def send(self, event, added):
+        """What breaks the demand, or None."""
+        try:
+            return self.marker() if added else self.event(event)
+        except InterfaceViolation as violation:
+            return f"two runs: {violation}"
+
+    def marker(self):
+        """An added marker goes to the second run, and is compared with nothing."""
+        self.counts["markers added"] += 1
+        reply, stored = self.second.send(Overflow())
+        return self.second.taken_after_marker(Overflow(), reply, stored, self.counts)
+
+    def event(self, event):
+        """An event of the list goes to both runs."""
+        first, second = self.first.send(event), self.second.send(event)
+        return (
+            self.first.taken_after_marker(event, *first, self.counts)
+            or self.second.taken_after_marker(event, *second, self.counts)
+            or self.compare(event, *first, *second)
+        )
+
+    def compare(self, event, first, stored_first, second, stored_second):
+        """Nothing is asked behind the parting."""
+        if self.parted:
+            return None
+        self.counts["events compared"] += 1
+        if not self.alike(event, first, second):
+            return f"two runs: {event} got {first} and {second}"
+        # "where the second stores a key the first stores the same"
+        if not stored_second <= stored_first:
+            return f"two runs: {event} stored {stored_second} in the second run alone"
+        if stored_second and hasattr(event, "link"):
+            self.counts["keys stored in the second run"] += 1
+        # The parting: the first run stores a key and the second does not.
+        self.parted = bool(stored_first - stored_second)
+        self.counts["partings"] += self.parted
+        if not self.parted and self.first.list != self.second.list:
+            return f"two runs: stored lists differ after {event}"
+        return None
+
+    def alike(self, event, first, second):
+        """The same answer, values and bytes, or 9 with untouched outputs in the second run only."""
+        if first == second:
+            return True
+        untouched = second.out == getattr(event, "out", b"")
+        lost = first.answer != IDLE and second.answer == IDLE and untouched
+        self.counts["only the second got 9"] += lost
+        return lost
+
+
+def keys(text):
+    """The keys that a written list holds."""
+    read = read_stored_list(text)
+    if read is None:
+        raise InterfaceViolation(f"a stored list that can't be read: {text.hex()}")
+    return set(read)

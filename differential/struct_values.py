@@ -1,0 +1,47 @@
+"""The values of an fp_device, field by field."""
+
+import struct
+from ctypes import Array, Structure, c_size_t, c_uint8, c_uint32, c_uint64, sizeof
+
+from .structs import FpDevice
+
+CODES = {c_uint8: "B", c_uint32: "I", c_uint64: "Q", c_size_t: "Q"}
+
+
+def places(kind, offset=0, name=""):
+    """Each number and each array of bytes in a struct: its name, its place and its code."""
+    if issubclass(kind, Structure):
+        for field, inner in kind._fields_:
+            place = getattr(kind, field).offset
+            yield from places(inner, offset + place, f"{name}.{field}" if name else field)
+    elif not issubclass(kind, Array):
+        yield name, offset, CODES[kind]
+    elif kind._type_ is c_uint8:
+        yield name, offset, f"{kind._length_}s"
+    else:
+        for i in range(kind._length_):
+            yield from places(kind._type_, offset + i * sizeof(kind._type_), f"{name}[{i}]")
+
+
+def packing(kind):
+    """The format that reads the struct, whatever stands between its fields."""
+    codes, at = "=", 0
+    for _, offset, code in places(kind):
+        codes += f"{offset - at}x{code}"
+        at = offset + struct.calcsize("=" + code)
+    return struct.Struct(f"{codes}{sizeof(kind) - at}x")
+
+
+NAMES = tuple(name for name, _, _ in places(FpDevice))
+PACKING = packing(FpDevice)
+
+
+def values(device):
+    """The values of an fp_device, in the order of NAMES."""
+    return PACKING.unpack_from(device)
+
+
+def differing(ours, theirs):
+    """The places whose values differ, by name: those of the one, and those of the other."""
+    rows = [row for row in zip(NAMES, ours, theirs) if row[1] != row[2]]
+    return {name: a for name, a, _ in rows}, {name: b for name, _, b in rows}

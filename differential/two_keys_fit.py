@@ -1,0 +1,52 @@
+"""Requests that two account keys fit: only they show at which key trying stops."""
+
+from random import Random
+
+from reference.generator.random_values import account_key, different_keys, lent_output
+from reference.rules.aes import decrypt, encrypt
+from reference.rules.events import KeyBasedWrite, PowerOn
+from reference.rules.key_based import REQUEST
+from reference.rules.stored_list import pack
+
+from .compare import first_difference
+
+LISTS = 12
+
+
+def one_block(random):
+    """A block that two keys decrypt to a request, and each key with the address it names."""
+    while True:
+        first, second = account_key(random), account_key(random)
+        request = bytes([REQUEST]) + random.randbytes(15)
+        block = encrypt(first, request)
+        other = decrypt(second, block)
+        # One second key in 256 gives the right first byte; the addresses are ours to choose.
+        if other[0] == REQUEST:
+            return block, (first, request[2:8]), (second, other[2:8])
+
+
+def write(random, block, clock):
+    """A write of this block on any link."""
+    link, secret, salt = random.randrange(8), random.randbytes(32), random.randbytes(9)
+    return KeyBasedWrite(link, clock, block, True, secret, salt, lent_output(random))
+
+
+def listed(random):
+    """Power-on with both keys, then the block; a spent salt must not lead to the second key."""
+    block, one, other = one_block(random)
+    keys = different_keys(random, random.randrange(4)) + [one[0], other[0]]
+    random.shuffle(keys)
+    public, ble = random.sample((one[1], other[1]), 2)
+    start = PowerOn(pack(keys), public, ble, random.randbytes(3), random.randbytes(2))
+    return [start, *(write(random, block, clock) for clock in range(4))]
+
+
+def difference(library, seed):
+    """The events and the difference of the first list that has one, or None."""
+    random = Random(seed)
+    for _ in range(LISTS):
+        events = listed(random)
+        found = first_difference(library, events)
+        if found:
+            return events[: found[0] + 1], found[1]
+    return None

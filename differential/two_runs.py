@@ -1,0 +1,55 @@
+"""The two runs of demand 3 on the built library, over random events with overflow markers added at random."""
+
+import argparse
+import sys
+import time
+
+from .library import load
+from .marked_lists import breach, run_pairs, shortest
+from .report import archive
+
+# What has to be seen, or the test could not have failed.
+NEEDED = (
+    "partings",
+    "keys stored in the second run",
+    "only the second got 9",
+    "writes after a marker",
+)
+
+
+def failed(library, failure):
+    """The shortest entries as Python; an added marker is True behind its event."""
+    entries = shortest(library, failure)
+    _, what = breach(library, entries)
+    lines = ["DEMAND 3 BROKEN", "from reference.rules.events import *", "entries = ["]
+    lines += [f"    {entry!r}," for entry in entries]
+    return "\n".join([*lines, "]", what])
+
+
+def arguments():
+    parser = argparse.ArgumentParser(prog="python3 -m differential.two_runs", description=__doc__)
+    parser.add_argument("--seed", type=int, default=1, help="the same seed gives the same events (default: 1)")
+    parser.add_argument("--events", type=int, default=40_000, help="how many, of all runs (default: 40,000)")
+    return parser.parse_args()
+
+
+def main():
+    """The exit code: 1 for a breach, or if something needed was never seen."""
+    options = arguments()
+    library = load()
+    print(archive())
+    begin = time.perf_counter()
+    counts, failure = run_pairs(library, options.seed, options.events)
+    for name, times in sorted(counts.items()):
+        print(f"{times:>9}  {name}")
+    print(f"seed {options.seed}, {time.perf_counter() - begin:.1f} s")
+    if failure:
+        print(failed(library, failure))
+        return 1
+    unseen = [name for name in NEEDED if not counts[name]]
+    print(f"never seen: {unseen}" if unseen else "demand 3 held")
+    return 1 if unseen else 0
+
+
+if __name__ == "__main__":
+    sys.exit(main())

@@ -1,0 +1,1 @@
+"""Seeded random events, and what a run of them has reached."""

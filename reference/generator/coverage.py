@@ -1,0 +1,52 @@
+"""Counts what a run has reached: answers, answers of each kind of event, stages."""
+
+from collections import Counter
+
+from ..rules.device import Stage
+from ..rules.events import KINDS
+
+ANSWERS = range(15)
+
+
+class Coverage:
+    """Takes note of every step of a run."""
+
+    def __init__(self):
+        self.answers = Counter()
+        self.pairs = Counter()
+        self.stages = Counter()
+
+    def note(self, before, event, after, reply):
+        """One event, the states around it, and its reply."""
+        self.answers[reply.answer] += 1
+        self.pairs[type(event).__name__, reply.answer] += 1
+        for stage in stages_entered(before, after):
+            self.stages[stage] += 1
+
+
+def stages_entered(before, after):
+    """The stages that links have come into by this step."""
+    if before is None or after is None:
+        return []
+    links = zip(before.links, after.links)
+    return [new.stage for old, new in links if new is not None and new is not old]
+
+
+def not_reached(coverage):
+    """The answers and the stages that the run has not reached."""
+    answers = [answer for answer in ANSWERS if not coverage.answers[answer]]
+    stages = [stage.value for stage in Stage if not coverage.stages[stage]]
+    return answers, stages
+
+
+def table(coverage):
+    """The counts as text: a row for each kind of event, a column for each answer."""
+    rows = ["event".ljust(20) + "".join(f"{answer:>7}" for answer in ANSWERS)]
+    for kind in KINDS:
+        counts = [coverage.pairs[kind.__name__, answer] for answer in ANSWERS]
+        rows.append(kind.__name__.ljust(20) + "".join(f"{n or '.':>7}" for n in counts))
+    totals = "".join(f"{coverage.answers[answer]:>7}" for answer in ANSWERS)
+    rows.append("all".ljust(20) + totals)
+    stages = ", ".join(f"{stage.value} {coverage.stages[stage]}" for stage in Stage)
+    rows.append("stages entered: " + stages)
+    return "\n".join(rows)

@@ -1,0 +1,1 @@
+"""Document 01 in Python: a device, its events and the answers."""

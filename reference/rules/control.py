@@ -1,0 +1,40 @@
+"""The events of the whole device, and of links that come and go."""
+
+from .device import Device, drop, drop_all
+from .events import Reply, plain_reply
+from .stored_list import read_stored_list
+
+
+def overflow(device, event):
+    """The overflow marker: "always gets 0. Drops K on all links. Nothing else changes." """
+    return drop_all(device), plain_reply(event, 0)
+
+
+def power_on(device, event):
+    """ "Starts from a stored list, addresses, model ID and salt." """
+    keys = read_stored_list(event.stored)
+    # "no device made; an earlier one stays as it was"
+    if keys is None:
+        return device, Reply(14)
+    made = Device(tuple(keys), event.public, event.ble, event.model, event.salt)
+    return made, Reply(0)
+
+
+def link_changed(device, event):
+    """ "Both drop that link's K, also when repeated." """
+    return drop(device, event.link), plain_reply(event, 0)
+
+
+def pairing_mode(device, event):
+    """ "Nothing else changes." """
+    return device.copy(pairing_mode=event.on), plain_reply(event, 0)
+
+
+def address_rotated(device, event):
+    """ "(new BLE address and new 2-byte filter salt). Nothing else changes." """
+    return device.copy(ble=event.ble, salt=event.salt), plain_reply(event, 0)
+
+
+def factory_reset(device, event):
+    """ "Empties the key list and spent salts, drops every K, sets the count to 0." """
+    return drop_all(device).copy(keys=(), spent=(), failures=0), plain_reply(event, 0)
