@@ -147,6 +147,13 @@ def marker_empties_list(arguments, result):
     result.next.stored.bytes[:4] = [0, 2, 1, 0]
 
 
+def stores_a_key(arguments, result):
+    """The last key of the list becomes one that was not there: it has the clock in it."""
+    stored = result.next.stored
+    if stored.length > 4:
+        stored.bytes[stored.length - 8 : stored.length] = list(result.next.clock.to_bytes(8, "big"))
+
+
 def salts_kept(arguments, result):
     if answers(result, 0):
         result.next.spent = arguments[0].spent

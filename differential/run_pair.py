@@ -12,6 +12,11 @@ EVERY_LINK = frozenset(range(256))
 NEED_A_KEY = (PasskeyWrite, AccountKeyWrite)
 
 
+def after_marker(kind):
+    """Under what events of this kind are counted, on a link that waits for a request since a marker."""
+    return f"{kind.__name__} after a marker"
+
+
 def first_device(library, entry):
     """The device that a taken power-on gives, or None if this entry is none."""
     event, added = entry
@@ -42,17 +47,19 @@ class Run:
         self.list = self.written()
         return reply, keys(self.list) - before
 
-    def taken_after_marker(self, event, reply, stored, counts):
-        """What was taken on a link after a marker and before a request, or None."""
-        link = getattr(event, "link", None)
+    def forbidden_after_marker(self, event, reply, stored, counts):
+        """What demand 3's last sentence forbids on a link between a marker and an accepted request, or None."""
         if isinstance(event, Overflow):
             self.waiting = EVERY_LINK
-        elif isinstance(event, KeyBasedWrite) and reply.answer == 0:
+        link = getattr(event, "link", None)
+        if link not in self.waiting:
+            return None
+        counts[after_marker(type(event))] += 1
+        # "no passkey write and no account key write gets 0", and no event of any kind stores a key
+        if stored or (isinstance(event, NEED_A_KEY) and reply.answer == 0):
+            return f"after a marker and no request on link {link}: {event} got {reply}, stored {stored}"
+        if isinstance(event, KeyBasedWrite) and reply.answer == 0:
             self.waiting -= {link}
-        elif isinstance(event, NEED_A_KEY) and link in self.waiting:
-            counts["writes after a marker"] += 1
-            if reply.answer == 0 or stored:
-                return f"after a marker and no request on link {link}: {event} got {reply}"
         return None
 
 
@@ -76,14 +83,14 @@ class RunPair:
         """An added marker goes to the second run, and is compared with nothing."""
         self.counts["markers added"] += 1
         reply, stored = self.second.send(Overflow())
-        return self.second.taken_after_marker(Overflow(), reply, stored, self.counts)
+        return self.second.forbidden_after_marker(Overflow(), reply, stored, self.counts)
 
     def event(self, event):
         """An event of the list goes to both runs."""
         first, second = self.first.send(event), self.second.send(event)
         return (
-            self.first.taken_after_marker(event, *first, self.counts)
-            or self.second.taken_after_marker(event, *second, self.counts)
+            self.first.forbidden_after_marker(event, *first, self.counts)
+            or self.second.forbidden_after_marker(event, *second, self.counts)
             or self.compare(event, *first, *second)
         )
 

@@ -51,6 +51,9 @@ WITH_TWO_RUNS = (
     ("fp_overflow", result_mistakes.marker_clears_count, "two runs"),
     ("fp_overflow", result_mistakes.marker_empties_list, "two runs"),
     ("fp_passkey_write", result_mistakes.written_on_9, "two runs"),
+    ("fp_link_up", result_mistakes.stores_a_key, "after a marker"),
+    ("fp_pairing_ended", result_mistakes.stores_a_key, "after a marker"),
+    ("fp_key_based_write", result_mistakes.stores_a_key, "after a marker"),
 )
 
 

@@ -4,16 +4,19 @@ import argparse
 import sys
 import time
 
+from reference.rules.events import KINDS_ON_A_LINK
+
 from .library import load
 from .marked_lists import breach, run_pairs, shortest
 from .report import archive
+from .run_pair import after_marker
 
 # What has to be seen, or the test could not have failed.
 NEEDED = (
     "partings",
     "keys stored in the second run",
     "only the second got 9",
-    "writes after a marker",
+    *map(after_marker, KINDS_ON_A_LINK),
 )
 
 

@@ -117,6 +117,17 @@ KINDS = (
     AccountKeyWrite,
 )
 
+KINDS_ON_A_LINK = (
+    LinkUp,
+    LinkDown,
+    KeyBasedWrite,
+    PairingStarted,
+    ConfirmationNeeded,
+    PasskeyWrite,
+    PairingEnded,
+    AccountKeyWrite,
+)
+
 # "Key-based and passkey writes lend a response output, and no other event does"
 LENDING = (KeyBasedWrite, PasskeyWrite)
 
