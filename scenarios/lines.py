@@ -1,0 +1,211 @@
+"""What a line asks, from its words: an event, a question, or several events in a row."""
+
+from dataclasses import dataclass
+from functools import partial
+
+from reference.rules import events
+from reference.rules.device import Stage
+from reference.rules.stored_list import pack
+
+from .fields import Fields, TextError, as_bytes, as_number
+from .names import (
+    ADDRESSES,
+    FILTER_SALT,
+    MODEL,
+    PASSKEY_SALT,
+    REQUEST_SALT,
+    ROOM,
+    SECRET,
+    account_key,
+    lent,
+)
+from .phone_writes import account_key_data, passkey_data, request_data
+
+
+@dataclass(frozen=True)
+class StoredListAsked:
+    """The stored list, to be written out."""
+
+    out: bytes
+
+
+@dataclass(frozen=True)
+class PayloadAsked:
+    """The advertising payload."""
+
+    hide: bool
+    out: bytes
+
+
+@dataclass(frozen=True)
+class BroughtTo:
+    """The events that bring a link to a stage; each of them has to be taken."""
+
+    events: tuple
+
+
+@dataclass(frozen=True)
+class Repeated:
+    """The same event several times; each time it has to get the same result."""
+
+    event: object
+    times: int
+
+    @property
+    def out(self):
+        return getattr(self.event, "out", b"")
+
+
+def asked(text):
+    """What stands left of the arrow."""
+    kind, words = kind_and_fields(text)
+    if kind not in KINDS:
+        raise TextError(f"'{kind}' is no event and no question; its fields stand behind two spaces")
+    fields = Fields(words)
+    times = fields.number("times", 1)
+    made = KINDS[kind](fields)
+    fields.check_all_taken()
+    return made if times == 1 else Repeated(made, times)
+
+
+def kind_and_fields(text):
+    """Two spaces or more stand between them."""
+    kind, _, words = text.partition("  ")
+    return kind, words.strip()
+
+
+def power_on(fields):
+    stored = stored_list(fields)
+    public = fields.sized_bytes("public", 6, ADDRESSES["public"])
+    ble = new_ble(fields) if fields.has("BLE") else ADDRESSES["BLE 1"]
+    model = fields.sized_bytes("model", 3, MODEL)
+    return events.PowerOn(stored, public, ble, model, fields.sized_bytes("filter salt", 2, FILTER_SALT))
+
+
+def stored_list(fields):
+    """The list as its bytes, or made of keys by their numbers."""
+    if fields.bare("no list"):
+        return b""
+    if fields.has("list"):
+        return fields.bytes("list")
+    if fields.bare("no keys"):
+        return pack([])
+    return pack([account_key(as_number("keys", word)) for word in fields.text("keys").split()])
+
+
+def new_ble(fields):
+    """A BLE address by its number or by its bytes."""
+    number = fields.text("BLE")
+    return ADDRESSES.get(f"BLE {number}") or as_bytes("BLE", number, 6)
+
+
+def overflow_marker(fields):
+    return events.Overflow()
+
+
+def link_up(fields):
+    return events.LinkUp(*link_and_clock(fields))
+
+
+def link_down(fields):
+    return events.LinkDown(*link_and_clock(fields))
+
+
+def link_and_clock(fields):
+    return fields.number("link"), fields.number("clock")
+
+
+def pairing_mode_on(fields):
+    return events.PairingMode(True, fields.number("clock"))
+
+
+def pairing_mode_off(fields):
+    return events.PairingMode(False, fields.number("clock"))
+
+
+def address_rotated(fields):
+    salt = fields.sized_bytes("filter salt", 2)
+    return events.AddressRotated(new_ble(fields), salt, fields.number("clock"))
+
+
+def factory_reset(fields):
+    return events.FactoryReset(fields.number("clock"))
+
+
+def key_based_write(fields):
+    link, clock = link_and_clock(fields)
+    accepted = not fields.bare("point rejected")
+    data, out = request_data(fields), output(fields)
+    return events.KeyBasedWrite(link, clock, data, accepted, SECRET, REQUEST_SALT, out)
+
+
+def passkey_write(fields):
+    link, clock = link_and_clock(fields)
+    return events.PasskeyWrite(link, clock, passkey_data(fields), PASSKEY_SALT, output(fields))
+
+
+def account_key_write(fields):
+    return events.AccountKeyWrite(*link_and_clock(fields), account_key_data(fields))
+
+
+def output(fields):
+    """The lent output, as it is beforehand."""
+    return lent(fields.number("lent", ROOM))
+
+
+def pairing_started(fields):
+    return events.PairingStarted(*link_and_clock(fields), fields.number("capability"))
+
+
+def confirmation_needed(fields):
+    return events.ConfirmationNeeded(*link_and_clock(fields), fields.number("passkey"))
+
+
+def pairing_ended(fields):
+    return events.PairingEnded(*link_and_clock(fields), fields.either("success", "failure"))
+
+
+def brought_to(stage, fields):
+    """A whole pairing up to this stage, at one clock and with one passkey."""
+    link, clock = link_and_clock(fields)
+    key, salt = fields.text("with"), fields.text("salt")
+    names, passkey = fields.text("names", "BLE 1"), fields.text("passkey", "123,456")
+    place = f"link {link}, clock {clock}"
+    steps = {
+        "asked": f"key-based write  {place}, with {key}, names {names}, salt {salt}",
+        "pairing": f"pairing started  {place}, capability 1",
+        "confirming": f"confirmation needed  {place}, passkey {passkey}",
+        "proved": f"passkey write  {place}, with {key}, passkey {passkey}",
+        "paired": f"pairing ended  {place}, success",
+    }
+    needed = list(steps)[: list(steps).index(stage) + 1]
+    return BroughtTo(tuple(asked(steps[name]) for name in needed))
+
+
+def stored_list_asked(fields):
+    return StoredListAsked(output(fields))
+
+
+def payload_asked(fields):
+    return PayloadAsked(fields.either("prompt hidden", "prompt shown"), output(fields))
+
+
+KINDS = {
+    "power-on": power_on,
+    "overflow marker": overflow_marker,
+    "link up": link_up,
+    "link down": link_down,
+    "pairing mode on": pairing_mode_on,
+    "pairing mode off": pairing_mode_off,
+    "address rotated": address_rotated,
+    "factory reset": factory_reset,
+    "key-based write": key_based_write,
+    "pairing started": pairing_started,
+    "confirmation needed": confirmation_needed,
+    "passkey write": passkey_write,
+    "pairing ended": pairing_ended,
+    "account key write": account_key_write,
+    **{f"brought to {stage.value}": partial(brought_to, stage.value) for stage in Stage},
+    "stored list": stored_list_asked,
+    "payload": payload_asked,
+}

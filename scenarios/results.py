@@ -1,0 +1,65 @@
+"""A result in words, as "0, tried 1, writes cc484d91db00df27d7e0bb60068eb1a2"."""
+
+from dataclasses import dataclass
+
+from reference.rules.events import Reply
+
+from .fields import TextError, as_bytes, as_number
+from .lines import PayloadAsked, StoredListAsked
+
+REPLIES = {True: "yes", False: "no"}
+
+
+@dataclass(frozen=True)
+class Result:
+    """The reply, with the whole lent output afterwards, and how many bytes of it were written."""
+
+    reply: Reply
+    written: int = 0
+
+
+def in_words(result, asked):
+    """What is not said is nothing: no key tried, no address, no reply, an output as it was."""
+    reply = result.reply
+    words = [str(reply.answer)]
+    words += [f"tried {reply.tried}"] if reply.tried else []
+    words += [f"bonding {reply.bond.hex()}"] if reply.bond else []
+    words += [f"reply {REPLIES[reply.confirm]}"] if reply.confirm is not None else []
+    words += [f"writes {grouped(reply.out[: result.written], asked)}"] if result.written else []
+    return ", ".join(words)
+
+
+def from_words(text, asked):
+    """The result that the words say, for this event or question."""
+    answer, *rest = text.split(", ")
+    values = dict(word.split(" ", 1) for word in rest if " " in word)
+    if len(values) != len(rest) or set(values) - {"tried", "bonding", "reply", "writes"}:
+        raise TextError(f"'{text}' is no result")
+    reply, confirm = values.get("reply"), {None: None, "yes": True, "no": False}
+    if reply not in confirm:
+        raise TextError(f"reply '{reply}' is neither yes nor no")
+    bond = as_bytes("bonding", values["bonding"], 6) if "bonding" in values else None
+    written = as_bytes("writes", values.get("writes", ""))
+    lent = getattr(asked, "out", b"")
+    # "Bytes past those written stay."
+    out = written + lent[len(written) :]
+    tried = as_number("tried", values.get("tried", 0))
+    return Result(Reply(as_number("answer", answer), tried, bond, confirm[reply], out), len(written))
+
+
+def grouped(data, asked):
+    """Hexadecimal with a space between the parts of a stored list or a payload."""
+    if isinstance(asked, StoredListAsked):
+        return parts(data, (2, 1, 1, *[16] * 5))
+    if isinstance(asked, PayloadAsked):
+        # length, service data type and UUID, then 00 and header, filter, 21 and salt
+        return parts(data, (1, 3, 2, len(data) - 9, 1, 2) if len(data) > 9 else (1, 3, 3))
+    return data.hex()
+
+
+def parts(data, sizes):
+    found, place = [], 0
+    for size in sizes:
+        found.append(data[place : place + size].hex())
+        place += size
+    return " ".join(part for part in found if part)

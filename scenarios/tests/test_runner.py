@@ -1,0 +1,117 @@
+"""The runner: a wrong result is named, errors are in words, and --write fills in what is missing."""
+
+import pathlib
+import tempfile
+import unittest
+
+from ..fields import TextError
+from ..run import first_difference
+from ..sides import SecondProgram
+from ..texts import read, read_all
+from ..write import rows, write
+
+RIGHT = """# A comment.
+
+power-on               keys 1                                             -> 0
+brought to asked       link 0, clock 0, with key 1, salt 0000000000000001 -> 0
+pairing started        link 0, clock 9,999, capability 1                  -> 0
+"""
+
+
+class Texts(unittest.TestCase):
+    def setUp(self):
+        folder = tempfile.TemporaryDirectory()
+        self.addCleanup(folder.cleanup)
+        self.path = pathlib.Path(folder.name) / "texts" / "sample.txt"
+        self.path.parent.mkdir()
+
+    def text(self, content):
+        self.path.write_text(content)
+        return read(self.path)
+
+
+class Comparing(Texts):
+    def difference(self, content):
+        return first_difference(self.text(content), SecondProgram())
+
+    def test_right(self):
+        self.assertIsNone(self.difference(RIGHT))
+
+    def test_wrong_answer_is_named_by_its_line(self):
+        found = self.difference(RIGHT.replace("capability 1                  -> 0", "capability 1 -> 9"))
+        self.assertEqual(found.line.number, 5)
+        self.assertEqual(found.words(), "the text says: 9; found: 0")
+
+    def test_each_part_of_a_result_counts(self):
+        line = "key-based write  link 0, clock 0, with key 1, names BLE 1, flags 40, seeker d89ef3010203, salt 0001"
+        right = "0, tried 1, bonding d89ef3010203, writes 5648e98396008dcc2221eb821a7cf50b"
+        power_on = "power-on  keys 1 -> 0\n"
+        self.assertIsNone(self.difference(f"{power_on}{line} -> {right}"))
+        for part, other in (("tried 1", "tried 2"), ("010203", "010204"), ("f50b", "f50c"), (", writes", ", reply yes, writes")):
+            self.assertIsNotNone(self.difference(f"{power_on}{line} -> {right.replace(part, other)}"))
+
+    def test_missing_result(self):
+        found = self.difference("power-on  keys 1")
+        self.assertEqual(found.words(), "the text has no result; found: 0")
+
+    def test_every_time_counts(self):
+        nine = "key-based write  link 0, clock 0, with key 9, names BLE 1, salt 0000000000000001, times {} -> 7, tried 1"
+        self.assertIsNone(self.difference("power-on  keys 1 -> 0\n" + nine.format(10)))
+        found = self.difference("power-on  keys 1 -> 0\n" + nine.format(11))
+        self.assertEqual(found.words(), "the text says: 7, tried 1; found: 5")
+
+    def test_each_step_to_a_stage_has_to_be_taken(self):
+        found = self.difference("power-on  keys 2 -> 0\nbrought to paired  link 0, clock 0, with key 1, salt 0000000000000001 -> 0")
+        self.assertEqual(found.words(), "the text says: 0; found: 7")
+
+
+class Errors(Texts):
+    def error(self, line):
+        with self.assertRaises(TextError) as caught:
+            self.text("# A comment.\n" + line)
+        return str(caught.exception).partition(": ")[2]
+
+    def test_in_words(self):
+        self.assertIn("'link upp' is no event", self.error("link upp  link 0, clock 0"))
+        self.assertIn("'lnk 0' is no field", self.error("link up  lnk 0, clock 0"))
+        self.assertIn("'clock' is missing", self.error("link up  link 0"))
+        self.assertIn("can't have: capability", self.error("link up  link 0, clock 0, capability 1"))
+        self.assertIn("clock 'x' is no number", self.error("link up  link 0, clock x"))
+        self.assertIn("stands twice", self.error("link up  link 0, link 0, clock 0"))
+        self.assertIn("is not hexadecimal", self.error("power-on  list 0x"))
+        self.assertIn("is no result", self.error("power-on  keys 1 -> 0, tired 1"))
+        self.assertIn("either 'success' or 'failure'", self.error("pairing ended  link 0, clock 0"))
+
+    def test_they_name_the_file_and_the_line(self):
+        with self.assertRaises(TextError) as caught:
+            self.text("\n\nlink upp  link 0")
+        self.assertIn("texts/sample.txt:3: ", str(caught.exception))
+
+    def test_no_such_text(self):
+        with self.assertRaises(TextError) as caught:
+            read_all(["lockoutt"])
+        self.assertIn("there is no text lockoutt", str(caught.exception))
+
+    def test_no_device_yet(self):
+        with self.assertRaises(TextError):
+            first_difference(self.text("link up  link 0, clock 0 -> 0"), SecondProgram())
+
+
+class Writing(Texts):
+    def test_missing_results_are_filled_in(self):
+        lines = [line.partition("->")[0] for line in RIGHT.splitlines()]
+        self.assertEqual(write(self.text("\n".join(lines))), 3)
+        self.assertEqual(self.path.read_text(), RIGHT)
+
+    def test_results_that_are_there_stay(self):
+        wrong = RIGHT.replace("capability 1                  -> 0", "capability 1                  -> 9")
+        self.assertEqual(write(self.text(wrong)), 0)
+        self.assertEqual(self.path.read_text(), wrong)
+
+    def test_texts_stand_as_they_are_written(self):
+        for text in read_all([]):
+            self.assertEqual(rows(text), text.raw, text.path.name)
+
+
+if __name__ == "__main__":
+    unittest.main()

@@ -1,0 +1,69 @@
+"""The text files: comments, blank lines, and lines of an event or a question with its result."""
+
+import pathlib
+from dataclasses import dataclass, replace
+
+from .fields import TextError
+from .lines import asked
+from .results import from_words
+
+FOLDER = pathlib.Path(__file__).resolve().parent / "texts"
+ARROW = "->"
+
+
+@dataclass(frozen=True)
+class Line:
+    """One line: its number, its words left of the arrow, what they ask and the result, if it has one."""
+
+    number: int
+    words: str
+    asked: object
+    result: object
+
+
+@dataclass(frozen=True)
+class Text:
+    """A file: every line of it as it stands, and those that hold an event or a question."""
+
+    path: pathlib.Path
+    raw: list
+    lines: list
+
+    def place(self, line):
+        return f"{self.path.parent.parent.name}/{self.path.parent.name}/{self.path.name}:{line.number}"
+
+
+def read_all(names):
+    """The texts of these names, or all of them."""
+    paths = [FOLDER / f"{name.removesuffix('.txt')}.txt" for name in names]
+    return [read(path) for path in paths or sorted(FOLDER.glob("*.txt"))]
+
+
+def read(path):
+    if not path.is_file():
+        raise TextError(f"there is no text {path.stem}; there are: {', '.join(names_there())}")
+    text = Text(path, path.read_text().splitlines(), [])
+    for number, raw in enumerate(text.raw, start=1):
+        if holds_line(raw):
+            text.lines.append(read_line(text, number, raw))
+    return text
+
+
+def names_there():
+    return sorted(path.stem for path in FOLDER.glob("*.txt"))
+
+
+def holds_line(raw):
+    return bool(raw.strip()) and not raw.startswith("#")
+
+
+def read_line(text, number, raw):
+    """The line; an error names the file and the number."""
+    words, arrow, result = (part.strip() for part in raw.partition(ARROW))
+    line = Line(number, words, None, None)
+    try:
+        question = asked(words)
+        expected = from_words(result, question) if arrow else None
+    except TextError as error:
+        raise TextError(f"{text.place(line)}: {error}") from None
+    return replace(line, asked=question, result=expected)
