@@ -59,8 +59,8 @@ class Pair:
         return self.compare_list() or self.compare_payload(0) or self.compare_payload(self.hide())
 
     def hide(self):
-        """ "any other number to hide it" """
-        return self.random.choice((1, 2, 128, 255))
+        """ "any other number to hide it": by the clock, so that a shortened list gets the same."""
+        return (1, 2, 128, 255)[self.reference.clock % 4]
 
     def compare_list(self):
         text = stored_list(self.reference)

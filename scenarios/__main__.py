@@ -1,4 +1,4 @@
-"""Run the scenarios of scenarios/texts on the built library and on the second program, and compare each result with the text."""
+"""Run the scenarios of scenarios/texts on the built library and on the second program, and compare each result."""
 
 import argparse
 import sys
@@ -17,7 +17,7 @@ def arguments():
     parser = argparse.ArgumentParser(prog="python3 -m scenarios", description=__doc__)
     parser.add_argument("names", nargs="*", metavar="NAME", help="texts to run, as lockout (default: all)")
     parser.add_argument(
-        "--write", action="store_true", help="fill in missing results from the second program, then compare with it alone"
+        "--write", action="store_true", help="fill in missing results from the second program; needs no archive"
     )
     parser.add_argument(
         "--without-library", action="store_true", help="run the second program alone; needs no archive"

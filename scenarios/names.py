@@ -28,7 +28,7 @@ ROOM = 90
 
 
 def account_key(number):
-    """Key n is 04 n1 n2 .. nf, so that it is known again in a stored list."""
+    """Key n is 04 n1 n2 .. nf, with n as a hexadecimal digit, so that it is known again in a stored list."""
     return bytes([0x04, *range(16 * number + 1, 16 * number + 16)])
 
 
@@ -38,5 +38,5 @@ def lent(size):
 
 
 # The keys that a phone can encrypt with.
-KEYS = {f"key {number}": account_key(number) for number in range(1, 10)}
+KEYS = {f"key {number}": account_key(number) for number in range(1, 16)}
 KEYS["shared secret"] = session_key(SECRET)

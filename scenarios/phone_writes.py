@@ -30,12 +30,16 @@ def named_address(fields):
 
 
 def passkey_data(fields):
+    if fields.has("bytes"):
+        return fields.bytes("bytes")
     kind = fields.sized_bytes("type", 1, b"\x02")
     passkey, key = fields.number("passkey"), encryption_key(fields)
     return resized(fields, seeker_blocks.passkey_block(key, passkey, SEEKER_SALT, kind[0]), 16)
 
 
 def account_key_data(fields):
+    if fields.has("bytes"):
+        return fields.bytes("bytes")
     new = account_key(fields.number("account key"))
     kind = fields.sized_bytes("type", 1, new[:1])
     block = seeker_blocks.account_key_block(encryption_key(fields), kind + new[1:])

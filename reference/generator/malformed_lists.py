@@ -1,7 +1,7 @@
 """Stored lists that are malformed, one function for each way."""
 
 from ..rules.stored_list import pack
-from .random_values import different_keys
+from .random_values import account_key, different_keys
 
 
 def with_header(length, version, keys, count=None):
@@ -75,6 +75,14 @@ def trailing_counted(random):
     return with_header(2 + 16 * len(keys) + more, 1, keys) + random.randbytes(more)
 
 
+def short_last_key(random):
+    """The count says one key more, and the length a part of it."""
+    keys = different_keys(random, random.randrange(5))
+    part = account_key(random)[: random.choice((1, 2, 15))]
+    length = 2 + 16 * len(keys) + len(part)
+    return with_header(length, 1, keys, len(keys) + 1) + part
+
+
 MALFORMED = (
     cut_in_header,
     cut_in_keys,
@@ -87,4 +95,5 @@ MALFORMED = (
     key_twice,
     trailing,
     trailing_counted,
+    short_last_key,
 )

@@ -12,8 +12,8 @@ from . import seeker_blocks
 from .random_values import (
     NO_ACCOUNT_KEY,
     account_key,
+    close_key,
     lent_output,
-    other_bit,
     resized,
     weighted,
 )
@@ -74,11 +74,7 @@ def some_account_key(random, device, history):
     if way == "earlier":
         return random.choice(earlier)
     key = random.choice(device.keys)
-    if way == "held":
-        return key
-    # Only one bit apart, half of the time in the last byte.
-    kept = random.choice((1, 15))
-    return key[:kept] + other_bit(random, key[kept:])
+    return key if way == "held" else close_key(random, key)
 
 
 def refused_capability(random, device, history, link, clock):

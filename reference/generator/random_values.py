@@ -16,14 +16,26 @@ def account_key(random):
 
 
 def different_keys(random, count, known=()):
-    """Different account keys, some of them known from before."""
+    """Different account keys, some of them known from before, some close to the one before."""
     keys = []
     while len(keys) < count:
-        known_one = known and random.random() < 0.4
-        key = random.choice(known) if known_one else account_key(random)
+        key = some_key(random, known, keys)
         if key not in keys:
             keys.append(key)
     return keys
+
+
+def some_key(random, known, keys):
+    chance = random.random()
+    if known and chance < 0.4:
+        return random.choice(known)
+    return close_key(random, keys[-1]) if keys and chance > 0.9 else account_key(random)
+
+
+def close_key(random, key):
+    """A key that differs in one bit, half of the time in the last byte."""
+    kept = random.choice((1, 15))
+    return key[:kept] + other_bit(random, key[kept:])
 
 
 def other_bit(random, data):

@@ -47,7 +47,8 @@ class Comparing(Texts):
         right = "0, tried 1, bonding d89ef3010203, writes 5648e98396008dcc2221eb821a7cf50b"
         power_on = "power-on  keys 1 -> 0\n"
         self.assertIsNone(self.difference(f"{power_on}{line} -> {right}"))
-        for part, other in (("tried 1", "tried 2"), ("010203", "010204"), ("f50b", "f50c"), (", writes", ", reply yes, writes")):
+        changes = (("tried 1", "tried 2"), ("010203", "010204"), ("f50b", "f50c"), (", w", ", reply no, w"))
+        for part, other in changes:
             self.assertIsNotNone(self.difference(f"{power_on}{line} -> {right.replace(part, other)}"))
 
     def test_missing_result(self):
@@ -55,13 +56,14 @@ class Comparing(Texts):
         self.assertEqual(found.words(), "the text has no result; found: 0")
 
     def test_every_time_counts(self):
-        nine = "key-based write  link 0, clock 0, with key 9, names BLE 1, salt 0000000000000001, times {} -> 7, tried 1"
-        self.assertIsNone(self.difference("power-on  keys 1 -> 0\n" + nine.format(10)))
-        found = self.difference("power-on  keys 1 -> 0\n" + nine.format(11))
+        failure = "key-based write  link 0, clock 0, with key 9, names BLE 1, salt 0000000000000001"
+        text = f"power-on  keys 1 -> 0\n{failure}, times "
+        self.assertIsNone(self.difference(f"{text}10 -> 7, tried 1"))
+        found = self.difference(f"{text}11 -> 7, tried 1")
         self.assertEqual(found.words(), "the text says: 7, tried 1; found: 5")
 
     def test_each_step_to_a_stage_has_to_be_taken(self):
-        found = self.difference("power-on  keys 2 -> 0\nbrought to paired  link 0, clock 0, with key 1, salt 0000000000000001 -> 0")
+        found = self.difference(RIGHT.replace("keys 1", "keys 2"))
         self.assertEqual(found.words(), "the text says: 0; found: 7")
 
 

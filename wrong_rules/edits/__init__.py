@@ -1,0 +1,26 @@
+"""The wrong rules: in each module those of the file of reference/rules that has its name.
+
+Left out, because no events can tell them from the right rules:
+- the clock step drops what is over on the event's link alone: any other K that is over is dropped at its link's next event;
+- the clock step looks at the count before the stages: neither depends on the other;
+- the failure's moment is kept, or set to 0, when the count becomes 0: it is not read while the count is 0;
+- 5 is given from a count of ten on: the count is never above ten;
+- our passkey is kept when a link has left confirming, and the moment of a stage without timer: nothing reads them.
+"""
+
+from . import advertising, aes, clock, control, device, key_based, lent_output, model, pairing, stored_list
+from .edit import Edit
+
+MODULES = (model, clock, control, device, key_based, pairing, stored_list, advertising, lent_output, aes)
+
+# A copy with no wrong rule, which nothing may find; every other file uses this one.
+UNCHANGED = Edit("device", "no wrong rule", "LINKS = 8", "LINKS = 8")
+
+
+def all_edits():
+    """Every wrong rule; the file is the module's name."""
+    return [
+        Edit(module.__name__.rpartition(".")[2], name, right, wrong)
+        for module in MODULES
+        for name, right, wrong in module.EDITS
+    ]

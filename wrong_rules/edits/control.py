@@ -1,0 +1,103 @@
+"""Overflow marker, power-on, links, pairing mode, rotation and factory reset."""
+
+MARKER = "    return drop_all(device), plain_reply(event, 0)\n\n\ndef power_on"
+REFUSED = "        return device, Reply(14)\n"
+TAKEN = "    return made, Reply(0)\n"
+CHANGED = "    return drop(device, event.link), plain_reply(event, 0)\n"
+MODE = "device.copy(pairing_mode=event.on)"
+ROTATED = "device.copy(ble=event.ble, salt=event.salt)"
+RESET = "drop_all(device).copy(keys=(), spent=(), failures=0)"
+KEPT_IN_PROVED = 's if s and s.stage.value == "proved" else None'
+FIELDS = ("links", "clock", "failures", "spent", "pairing_mode", "keys", "ble", "salt", "public", "model")
+
+
+def marker(change):
+    """The marker drops every K and changes something else as well."""
+    return MARKER.replace("drop_all(device)", f"drop_all(device).copy({change})")
+
+
+def keeps(field):
+    """Power-on keeps a field of the earlier device."""
+    return f"    if device is not None:\n        made = made.copy({field}=device.{field})\n" + TAKEN
+
+
+EDITS = (
+    ("the marker is ignored", MARKER, MARKER.replace("drop_all(device)", "device")),
+    ("the marker clears link 0 alone", MARKER, MARKER.replace("drop_all(device)", "drop(device, 0)")),
+    (
+        "the marker clears all links but the last",
+        MARKER,
+        MARKER.replace("drop_all(device)", "device.copy(links=(None,) * 7 + device.links[7:])"),
+    ),
+    (
+        "the marker keeps K in proved",
+        MARKER,
+        MARKER.replace("drop_all(device)", f"device.copy(links=tuple({KEPT_IN_PROVED} for s in device.links))"),
+    ),
+    ("the marker empties the salts", MARKER, marker("spent=()")),
+    ("the marker sets the count to 0", MARKER, marker("failures=0")),
+    ("the marker ends pairing mode", MARKER, marker("pairing_mode=False")),
+    ("the marker sets the clock to 0", MARKER, marker("clock=0")),
+    ("the marker empties the list", MARKER, marker("keys=()")),
+    (
+        "a refused power-on drops every K",
+        REFUSED,
+        "        return (drop_all(device) if device else None), Reply(14)\n",
+    ),
+    (
+        "a refused power-on sets the clock to 0",
+        REFUSED,
+        "        return (device.copy(clock=0) if device else None), Reply(14)\n",
+    ),
+    (
+        "a refused power-on empties the list",
+        REFUSED,
+        "        return (device.copy(keys=()) if device else None), Reply(14)\n",
+    ),
+    (
+        "a refused power-on takes the new address",
+        REFUSED,
+        "        return (device.copy(ble=event.ble) if device else None), Reply(14)\n",
+    ),
+    (
+        "a refused power-on ends pairing mode",
+        REFUSED,
+        "        return (device.copy(pairing_mode=False) if device else None), Reply(14)\n",
+    ),
+    (
+        "a refused power-on sets the count to 0",
+        REFUSED,
+        "        return (device.copy(failures=0) if device else None), Reply(14)\n",
+    ),
+    (
+        "a refused power-on empties the salts",
+        REFUSED,
+        "        return (device.copy(spent=()) if device else None), Reply(14)\n",
+    ),
+    ("a malformed list gets 0", REFUSED, REFUSED.replace("14", "0")),
+    *((f"power-on keeps {field}", TAKEN, keeps(field)) for field in FIELDS),
+    ("power-on exchanges the addresses", "event.public, event.ble", "event.ble, event.public"),
+    ("power-on reverses the model ID", "event.model, event.salt", "event.model[::-1], event.salt"),
+    ("power-on reverses the filter salt", "event.model, event.salt", "event.model, event.salt[::-1]"),
+    ("link up and down drop every K", CHANGED, CHANGED.replace("drop(device, event.link)", "drop_all(device)")),
+    ("link up and down drop K of link 0", CHANGED, CHANGED.replace("event.link)", "0)")),
+    ("pairing mode is only ever switched on", MODE, "device.copy(pairing_mode=True)"),
+    ("pairing mode is inverted by each event", MODE, "device.copy(pairing_mode=not device.pairing_mode)"),
+    ("pairing mode drops every K", MODE, "drop_all(device).copy(pairing_mode=event.on)"),
+    ("pairing mode empties the salts", MODE, "device.copy(pairing_mode=event.on, spent=())"),
+    ("pairing mode sets the count to 0", MODE, "device.copy(pairing_mode=event.on, failures=0)"),
+    ("rotation keeps the filter salt", ROTATED, "device.copy(ble=event.ble)"),
+    ("rotation keeps the address", ROTATED, "device.copy(salt=event.salt)"),
+    ("rotation changes the public address", ROTATED, "device.copy(public=event.ble, salt=event.salt)"),
+    ("rotation drops every K", ROTATED, "drop_all(device).copy(ble=event.ble, salt=event.salt)"),
+    ("rotation empties the salts", ROTATED, ROTATED.replace(")", ", spent=())")),
+    ("rotation sets the count to 0", ROTATED, ROTATED.replace(")", ", failures=0)")),
+    ("rotation ends pairing mode", ROTATED, ROTATED.replace(")", ", pairing_mode=False)")),
+    ("a reset keeps the keys", RESET, "drop_all(device).copy(spent=(), failures=0)"),
+    ("a reset keeps the salts", RESET, "drop_all(device).copy(keys=(), failures=0)"),
+    ("a reset keeps the count", RESET, "drop_all(device).copy(keys=(), spent=())"),
+    ("a reset keeps every K", RESET, "device.copy(keys=(), spent=(), failures=0)"),
+    ("a reset ends pairing mode", RESET, RESET.replace("failures=0", "failures=0, pairing_mode=False")),
+    ("a reset sets the clock to 0", RESET, RESET.replace("failures=0", "failures=0, clock=0")),
+    ("a reset clears the filter salt", RESET, RESET.replace("failures=0", "failures=0, salt=bytes(2)")),
+)

@@ -1,0 +1,303 @@
+"""The key-based write."""
+
+LOCKED = "        return device, plain_reply(event, 5)\n"
+CHECK_5 = "    if device.failures == MOST_FAILURES:\n" + LOCKED
+MODE_OFF = "        return device, plain_reply(event, 6)\n"
+CHECK_6 = "    if len(event.data) == 80 and not device.pairing_mode:\n" + MODE_OFF
+FAILED = "        return count_failure(device), plain_reply(event, 7, tried=len(keys))\n"
+SPENT = "        return device, plain_reply(event, 8, tried=place)\n"
+ADDRESS = "request[2:8] in (device.ble, device.public)"
+FITS = f"    return request[0] == REQUEST and {ADDRESS}\n"
+SALT = "    return request[14:] if request[1] & (BONDING | RETROACTIVE) else request[8:]\n"
+COUNTED = "device.copy(failures=device.failures + 1, failed_at=device.clock)"
+REMEMBERED = "    spent = (device.spent + (salt_of(request),))[-MOST_SALTS:]\n"
+ACCEPTED = "    device = device.copy(spent=spent, failures=0)\n"
+HELD = "    device = hold(device, event.link, Session(key, Stage.ASKED, device.clock))\n"
+RESPONSE = "encrypt(key, bytes([RESPONSE]) + device.public + event.salt)"
+BOND = "    bond = request[8:14] if request[1] & BONDING else None\n"
+SEARCH = "    for place, key in enumerate(keys, start=1):\n"
+DROPPED = "hold(device, event.link, None)"
+
+
+def changes(line, change):
+    """The answer of this line changes the device, where it should not."""
+    return line.replace("return device,", f"return {change},")
+
+
+EDITS = (
+    ("nine failures lock", "MOST_FAILURES = 10", "MOST_FAILURES = 9"),
+    ("eleven failures lock", "MOST_FAILURES = 10", "MOST_FAILURES = 11"),
+    ("5 is left out", CHECK_5, ""),
+    ("6 comes before 5", CHECK_5 + CHECK_6, CHECK_6 + CHECK_5),
+    (
+        "8 comes before 5",
+        CHECK_5,
+        "    salts = [salt_of(decrypt(key, event.data[:16])) for key in device.keys]\n"
+        "    if device.failures == MOST_FAILURES and not set(salts) & set(device.spent):\n" + LOCKED,
+    ),
+    ("6 is left out", CHECK_6, ""),
+    ("16 bytes with pairing mode off get 6", CHECK_6, CHECK_6.replace("len(event.data) == 80 and ", "")),
+    (
+        "6 is given with pairing mode on",
+        CHECK_6,
+        CHECK_6.replace("not device.pairing_mode", "device.pairing_mode"),
+    ),
+    (
+        "80 bytes in pairing mode off are tried with account keys",
+        CHECK_6,
+        "    if len(event.data) == 80 and not device.pairing_mode:\n"
+        "        event = event.__class__(**{**vars(event), 'data': event.data[:16]})\n",
+    ),
+    ("5 moves the failure's moment", LOCKED, changes(LOCKED, "device.copy(failed_at=device.clock)")),
+    ("5 drops K", LOCKED, changes(LOCKED, DROPPED)),
+    ("6 counts as a failure", MODE_OFF, changes(MODE_OFF, "count_failure(device)")),
+    ("6 moves the failure's moment", MODE_OFF, changes(MODE_OFF, "device.copy(failed_at=device.clock)")),
+    ("6 drops K", MODE_OFF, changes(MODE_OFF, DROPPED)),
+    ("8 counts as a failure", SPENT, changes(SPENT, "count_failure(device)")),
+    ("8 moves the failure's moment", SPENT, changes(SPENT, "device.copy(failed_at=device.clock)")),
+    ("8 sets the count to 0", SPENT, changes(SPENT, "device.copy(failures=0)")),
+    ("8 drops K", SPENT, changes(SPENT, DROPPED)),
+    (
+        "8 remembers the salt once more",
+        SPENT,
+        changes(SPENT, "device.copy(spent=(device.spent + (salt_of(request),))[-MOST_SALTS:])"),
+    ),
+    (
+        "8 replaces K",
+        SPENT,
+        changes(SPENT, "hold(device, event.link, Session(key, Stage.ASKED, device.clock))"),
+    ),
+    (
+        "8 hands out the address for bonding",
+        SPENT,
+        "        return device, Reply(8, place, request[8:14] if request[1] & BONDING else None, out=event.out)\n",
+    ),
+    (
+        "8 writes a response",
+        SPENT,
+        "        response = encrypt(key, bytes([RESPONSE]) + device.public + event.salt)\n"
+        "        return device, Reply(8, place, out=put(response, event.out))\n",
+    ),
+    ("8 tells 0 keys tried", SPENT, SPENT.replace("tried=place", "tried=0")),
+    ("7 tells 0 keys tried", FAILED, FAILED.replace("tried=len(keys)", "tried=0")),
+    ("7 tells one key more", FAILED, FAILED.replace("tried=len(keys)", "tried=len(keys) + 1")),
+    (
+        "7 tells the list's length for 80 bytes",
+        FAILED,
+        FAILED.replace("tried=len(keys)", "tried=len(device.keys)"),
+    ),
+    ("7 is not counted", FAILED, FAILED.replace("count_failure(device)", "device")),
+    ("7 drops K", FAILED, FAILED.replace("count_failure(device)", "count_failure(" + DROPPED + ")")),
+    (
+        "7 remembers the salt",
+        FAILED,
+        "        salts = tuple(salt_of(decrypt(key, event.data[:16])) for key in keys)\n"
+        "        device = device.copy(spent=(device.spent + salts)[-MOST_SALTS:])\n" + FAILED,
+    ),
+    (
+        "a rejected point is not counted",
+        FAILED,
+        "        counted = device if len(event.data) == 80 and not event.accepted else count_failure(device)\n"
+        "        return counted, plain_reply(event, 7, tried=len(keys))\n",
+    ),
+    ("the place is counted from 0", SEARCH, SEARCH.replace("start=1", "start=0")),
+    (
+        "keys are tried from the last on",
+        SEARCH,
+        SEARCH.replace("enumerate(keys, start=1)", "reversed(list(enumerate(keys, start=1)))"),
+    ),
+    (
+        "keys are tried from the last on, counted from there",
+        SEARCH,
+        SEARCH.replace("enumerate(keys, start=1)", "enumerate(reversed(keys), start=1)"),
+    ),
+    (
+        "the first key is not tried",
+        SEARCH,
+        SEARCH.replace("enumerate(keys, start=1)", "list(enumerate(keys, start=1))[1 if len(keys) > 1 else 0 :]"),
+    ),
+    (
+        "trying goes on when the salt is remembered",
+        "        if fits(device, request):\n",
+        "        if fits(device, request) and (salt_of(request) not in device.spent or key == keys[-1]):\n",
+    ),
+    (
+        "16 bytes are tried with the secret too",
+        "        return device.keys\n",
+        "        return device.keys + (sha256(event.secret).digest()[:16],)\n",
+    ),
+    (
+        "16 bytes need an accepted point",
+        "        return device.keys\n",
+        "        return device.keys if event.accepted else ()\n",
+    ),
+    (
+        "80 bytes are tried with the account keys too",
+        "        return (sha256(event.secret).digest()[:16],)\n",
+        "        return (sha256(event.secret).digest()[:16],) + device.keys\n",
+    ),
+    (
+        "the key is the last 16 bytes of the hash",
+        "        return (sha256(event.secret).digest()[:16],)\n",
+        "        return (sha256(event.secret).digest()[16:],)\n",
+    ),
+    (
+        "the key is the secret's first 16 bytes",
+        "        return (sha256(event.secret).digest()[:16],)\n",
+        "        return (event.secret[:16],)\n",
+    ),
+    ("a rejected point gives a candidate", "    if event.accepted:\n", "    if True:\n"),
+    (
+        "a rejected point leads to the account keys",
+        "    return ()\n\n\ndef first_fitting",
+        "    return device.keys\n\n\ndef first_fitting",
+    ),
+    ("the request is the last 16 bytes", "event.data[:16])", "event.data[-16:])"),
+    ("byte 0 is not looked at", FITS, FITS.replace("request[0] == REQUEST and ", "")),
+    ("type 0x10 fits", FITS, FITS.replace("request[0] == REQUEST", "request[0] in (REQUEST, 0x10)")),
+    ("the public address does not fit", FITS, FITS.replace("(device.ble, device.public)", "(device.ble,)")),
+    ("the BLE address does not fit", FITS, FITS.replace("(device.ble, device.public)", "(device.public,)")),
+    (
+        "the last byte of an address is not compared",
+        FITS,
+        FITS.replace(ADDRESS, "request[2:7] in (device.ble[:5], device.public[:5])"),
+    ),
+    (
+        "the first byte of an address is not compared",
+        FITS,
+        FITS.replace(ADDRESS, "request[3:8] in (device.ble[1:], device.public[1:])"),
+    ),
+    ("an address is compared in reverse", FITS, FITS.replace("request[2:8]", "request[7:1:-1]")),
+    ("any address fits", FITS, "    return request[0] == REQUEST\n"),
+    ("the salt is always bytes 8 to 15", SALT, "    return request[8:]\n"),
+    ("the salt is always bytes 14 to 15", SALT, "    return request[14:]\n"),
+    ("flag 0x10 leaves the salt at byte 8", SALT, SALT.replace("(BONDING | RETROACTIVE)", "BONDING")),
+    ("flag 0x40 leaves the salt at byte 8", SALT, SALT.replace("(BONDING | RETROACTIVE)", "RETROACTIVE")),
+    (
+        "flag 0x80 shortens the salt",
+        SALT,
+        SALT.replace("(BONDING | RETROACTIVE)", "(BONDING | RETROACTIVE | 0x80)"),
+    ),
+    (
+        "flag 0x20 shortens the salt",
+        SALT,
+        SALT.replace("(BONDING | RETROACTIVE)", "(BONDING | RETROACTIVE | 0x20)"),
+    ),
+    (
+        "both flags are needed for a short salt",
+        SALT,
+        SALT.replace("request[1] & (BONDING | RETROACTIVE)", "request[1] & 0x50 == 0x50"),
+    ),
+    (
+        "flags are compared as a whole",
+        SALT,
+        SALT.replace("request[1] & (BONDING | RETROACTIVE)", "request[1] in (BONDING, RETROACTIVE)"),
+    ),
+    ("a short salt is byte 15 alone", SALT, SALT.replace("request[14:]", "request[15:]")),
+    ("a short salt is bytes 13 to 15", SALT, SALT.replace("request[14:]", "request[13:]")),
+    ("a long salt is bytes 8 to 14", SALT, SALT.replace("request[8:]", "request[8:15]")),
+    ("a long salt is bytes 9 to 15", SALT, SALT.replace("request[8:]", "request[9:]")),
+    (
+        "a short salt is filled up with zeros",
+        SALT,
+        SALT.replace("request[14:] if", "request[14:].ljust(8, bytes(1)) if"),
+    ),
+    (
+        "a short salt is filled up from the left",
+        SALT,
+        SALT.replace("request[14:] if", "request[14:].rjust(8, bytes(1)) if"),
+    ),
+    ("fifteen salts are remembered", "MOST_SALTS = 16", "MOST_SALTS = 15"),
+    ("seventeen salts are remembered", "MOST_SALTS = 16", "MOST_SALTS = 17"),
+    ("the oldest salts stay", REMEMBERED, REMEMBERED.replace("[-MOST_SALTS:]", "[:MOST_SALTS]")),
+    (
+        "the newest salt stands first",
+        REMEMBERED,
+        "    spent = ((salt_of(request),) + device.spent)[-MOST_SALTS:]\n",
+    ),
+    ("the salt is not remembered", REMEMBERED, "    spent = device.spent\n"),
+    (
+        "sixteen salts of each length are remembered",
+        REMEMBERED,
+        "    salt = salt_of(request)\n"
+        "    same = [s for s in device.spent if len(s) == len(salt)][-15:]\n"
+        "    spent = tuple(s for s in device.spent if len(s) != len(salt) or s in same) + (salt,)\n",
+    ),
+    (
+        "only the last salt is refused",
+        "salt_of(request) in device.spent",
+        "salt_of(request) in device.spent[-1:]",
+    ),
+    (
+        "a salt is compared by its first two bytes",
+        "salt_of(request) in device.spent",
+        "salt_of(request)[:2] in [s[:2] for s in device.spent]",
+    ),
+    (
+        "a salt is compared by its last two bytes",
+        "salt_of(request) in device.spent",
+        "salt_of(request)[-2:] in [s[-2:] for s in device.spent]",
+    ),
+    ("the failure's moment is not stored", COUNTED, "device.copy(failures=device.failures + 1)"),
+    (
+        "the failure's moment is that of the first one",
+        COUNTED,
+        "device.copy(failures=device.failures + 1, failed_at=device.failed_at if device.failures else device.clock)",
+    ),
+    ("an accepted request leaves the count", ACCEPTED, ACCEPTED.replace(", failures=0", "")),
+    (
+        "an accepted request takes one from the count",
+        ACCEPTED,
+        ACCEPTED.replace("failures=0", "failures=max(0, device.failures - 1)"),
+    ),
+    ("an accepted request leaves an earlier K", HELD, "    if device.links[event.link] is None:\n    " + HELD),
+    (
+        "an accepted request leaves the stage",
+        HELD,
+        "    stage = device.links[event.link].stage if device.links[event.link] else Stage.ASKED\n"
+        "    device = hold(device, event.link, Session(key, stage, device.clock))\n",
+    ),
+    (
+        "an accepted request leaves the stage's moment",
+        HELD,
+        "    began = device.links[event.link].began if device.links[event.link] else device.clock\n"
+        "    device = hold(device, event.link, Session(key, Stage.ASKED, began))\n",
+    ),
+    ("an accepted request begins in pairing", HELD, HELD.replace("Stage.ASKED", "Stage.PAIRING")),
+    (
+        "an accepted request makes the other links idle",
+        HELD,
+        HELD.replace("hold(device,", "hold(device.copy(links=(None,) * 8),"),
+    ),
+    (
+        "an accepted request makes its key the newest",
+        ACCEPTED,
+        ACCEPTED + "    device = device.copy(keys=tuple(sorted(device.keys, key=lambda k: k == key)))\n",
+    ),
+    ("the response names the BLE address", RESPONSE, RESPONSE.replace("device.public", "device.ble")),
+    (
+        "the response names the address that the request names",
+        RESPONSE,
+        RESPONSE.replace("device.public", "request[2:8]"),
+    ),
+    ("the response begins with 0x00", "RESPONSE = 0x01", "RESPONSE = 0x00"),
+    ("the response is not encrypted", RESPONSE, RESPONSE[len("encrypt(key, ") : -1]),
+    ("the response is decrypted", RESPONSE, RESPONSE.replace("encrypt", "decrypt")),
+    (
+        "the response has its salt before the address",
+        RESPONSE,
+        "encrypt(key, bytes([RESPONSE]) + event.salt + device.public)",
+    ),
+    ("no address is handed out for bonding", BOND, "    bond = None\n"),
+    ("an address is handed out without a flag", BOND, "    bond = request[8:14]\n"),
+    ("flag 0x10 hands out an address", BOND, BOND.replace("& BONDING", "& (BONDING | RETROACTIVE)")),
+    ("flag 0x80 hands out an address", BOND, BOND.replace("& BONDING", "& (BONDING | 0x80)")),
+    (
+        "an address is handed out for flags 0x40 alone",
+        BOND,
+        BOND.replace("request[1] & BONDING", "request[1] == BONDING"),
+    ),
+    ("the address is bytes 2 to 7", BOND, BOND.replace("[8:14]", "[2:8]")),
+    ("the address is bytes 9 to 14", BOND, BOND.replace("[8:14]", "[9:15]")),
+    ("the address is handed out in reverse", BOND, BOND.replace("[8:14]", "[13:7:-1]")),
+)

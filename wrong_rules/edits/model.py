@@ -1,0 +1,94 @@
+"""The order of the checks, and the answers 1, 2, 3, 13 and 4."""
+
+REFUSAL = "    answer = refusal_without_change(event)\n"
+LINK = '    if getattr(event, "link", 0) >= LINKS:\n        return 1\n'
+LENGTH = "    if isinstance(event, events.KeyBasedWrite) and len(event.data) not in (16, 80):\n        return 2\n"
+PASSKEY = "    if isinstance(event, events.ConfirmationNeeded) and event.passkey > MOST_PASSKEY:\n        return 3\n"
+OUTPUT = "    if isinstance(event, events.LENDING) and len(event.out) < RESPONSE_SIZE:\n        return 13\n"
+UNCHANGED = "        return device, plain_reply(event, answer)\n"
+EARLIER = "        return drop_all(device), plain_reply(event, 4)\n"
+RULE = "    return RULES[type(event)](clock_step(device, event.clock), event)\n"
+
+
+def no_clock_step(answer):
+    """The event changes nothing with this answer, and stores no clock."""
+    return (
+        "    after, reply = RULES[type(event)](clock_step(device, event.clock), event)\n"
+        f"    return (device if reply.answer == {answer} else after), reply\n"
+    )
+
+
+EDITS = (
+    ("link 7 is refused", LINK, LINK.replace(">= LINKS", ">= LINKS - 1")),
+    ("80 bytes get 2", LENGTH, LENGTH.replace("not in (16, 80)", "!= 16")),
+    ("17 bytes are taken", LENGTH, LENGTH.replace("(16, 80)", "(16, 17, 80)")),
+    ("15 bytes are taken", LENGTH, LENGTH.replace("(16, 80)", "(15, 16, 80)")),
+    ("79 bytes are taken", LENGTH, LENGTH.replace("(16, 80)", "(16, 79, 80)")),
+    ("81 bytes are taken", LENGTH, LENGTH.replace("(16, 80)", "(16, 80, 81)")),
+    ("our passkey 999,999 gets 3", "MOST_PASSKEY = 999_999", "MOST_PASSKEY = 999_998"),
+    ("our passkey 1,000,000 is taken", "MOST_PASSKEY = 999_999", "MOST_PASSKEY = 1_000_000"),
+    ("3 is left out", PASSKEY, ""),
+    ("an output of 15 bytes is taken", "RESPONSE_SIZE = 16", "RESPONSE_SIZE = 15"),
+    ("an output of 16 bytes gets 13", "RESPONSE_SIZE = 16", "RESPONSE_SIZE = 17"),
+    ("13 is left out in passkey writes", OUTPUT, OUTPUT.replace("events.LENDING", "events.KeyBasedWrite")),
+    ("13 is left out in key-based writes", OUTPUT, OUTPUT.replace("events.LENDING", "events.PasskeyWrite")),
+    ("2 comes before 1", LINK + LENGTH, LENGTH + LINK),
+    ("3 comes before 1", LINK + LENGTH + PASSKEY, PASSKEY + LINK + LENGTH),
+    ("13 comes before 1", LINK + LENGTH + PASSKEY + OUTPUT, OUTPUT + LINK + LENGTH + PASSKEY),
+    ("13 comes before 2", LENGTH + PASSKEY + OUTPUT, OUTPUT + LENGTH + PASSKEY),
+    (
+        "4 comes before 1, 2, 3 and 13",
+        REFUSAL,
+        "    if event.clock < device.clock:\n        return drop_all(device), plain_reply(event, 4)\n" + REFUSAL,
+    ),
+    ("1, 2, 3 and 13 drop every K", UNCHANGED, UNCHANGED.replace("device,", "drop_all(device),", 1)),
+    (
+        "1, 2, 3 and 13 store the clock",
+        UNCHANGED,
+        UNCHANGED.replace("device,", "device.copy(clock=max(event.clock, device.clock)),", 1),
+    ),
+    (
+        "1, 2, 3 and 13 make the clock step",
+        UNCHANGED,
+        UNCHANGED.replace("device,", "clock_step(device, event.clock).copy(clock=device.clock),", 1),
+    ),
+    ("an equal clock gets 4", "event.clock < device.clock", "event.clock <= device.clock"),
+    ("4 is left out", "event.clock < device.clock", "False"),
+    ("4 drops no K", EARLIER, EARLIER.replace("drop_all(device)", "device")),
+    (
+        "4 drops K of the event's link alone",
+        EARLIER,
+        "        links = device.links\n"
+        '        link = getattr(event, "link", 0)\n'
+        "        kept = links[:link] + (None,) + links[link + 1 :]\n"
+        "        return device.copy(links=kept), plain_reply(event, 4)\n",
+    ),
+    (
+        "4 stores the clock",
+        EARLIER,
+        EARLIER.replace("drop_all(device)", "drop_all(device).copy(clock=event.clock)"),
+    ),
+    (
+        "4 sets the count to 0",
+        EARLIER,
+        EARLIER.replace("drop_all(device)", "drop_all(device).copy(failures=0)"),
+    ),
+    (
+        "4 does what the event does",
+        EARLIER,
+        "        after, _ = RULES[type(event)](device, event)\n"
+        "        return drop_all(after), plain_reply(event, 4)\n",
+    ),
+    *((f"{answer} makes no clock step", RULE, no_clock_step(answer)) for answer in (5, 6, 8, 9, 12)),
+    ("7 makes no clock step", RULE, no_clock_step(7).replace("device if", "after.copy(clock=device.clock) if")),
+    (
+        "link up drops nothing",
+        "events.LinkUp: control.link_changed",
+        "events.LinkUp: lambda d, e: (d, plain_reply(e, 0))",
+    ),
+    (
+        "link down drops nothing",
+        "events.LinkDown: control.link_changed",
+        "events.LinkDown: lambda d, e: (d, plain_reply(e, 0))",
+    ),
+)
