@@ -1,4 +1,8 @@
-"""What the benchmarks share: commands that must succeed, and the instructions that callgrind counts."""
+"""What the benchmarks bench/run and bench/events share: commands that must succeed, and the instructions that callgrind counts.
+
+It measures nothing by itself.
+"""
+import argparse
 import collections
 import pathlib
 import re
@@ -25,6 +29,8 @@ def install_missing():
 
 # The program of bench/NAME.c, linked with one of our archives and with BearSSL's.
 def compiled(name, archive):
+    if not (ARCHIVES / archive).exists():
+        sys.exit(f"{(ARCHIVES / archive).relative_to(ROOT)} is not there; `rt staticlib` makes it")
     FOLDER.mkdir(parents=True, exist_ok=True)
     program = FOLDER / name
     run(["cc", "-O2", "-Wall", "-o", program, ROOT / "bench" / f"{name}.c", ARCHIVES / archive, "-l:libbearssl.a"])
@@ -61,7 +67,15 @@ def inclusive(lines):
 
 
 def run(command):
-    done = subprocess.run([str(word) for word in command], cwd=ROOT, capture_output=True, text=True)
+    words = [str(word) for word in command]
+    if not shutil.which(words[0]):
+        sys.exit(f"the command {words[0]} is not there")
+    done = subprocess.run(words, cwd=ROOT, capture_output=True, text=True)
     if done.returncode:
         sys.exit(f"{' '.join(map(str, command))} failed:\n{done.stdout}{done.stderr}")
     return done.stdout
+
+
+if __name__ == "__main__":
+    argparse.ArgumentParser(prog="bench/measure.py", description=__doc__).parse_args()
+    sys.exit("nothing to run here: bench/run and bench/events are the benchmarks")

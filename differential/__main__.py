@@ -1,9 +1,10 @@
-"""python3 -m differential [--seed N] [--events N] [--list-length N] [--selftest]"""
+"""Run the built library beside the second program on random events, and compare after each event."""
 
 import argparse
 import faulthandler
-import sys
 import time
+
+from reference.generator.options import above_zero, add_run_options
 
 from . import two_keys_fit
 from .any_bytes import AnyBytes
@@ -11,14 +12,16 @@ from .library import load
 from .report import archive, failed, reached
 from .runs import Failure, runs
 from .selftest import selftest
+from .setup_error import exit_in_words
 
 
 def arguments():
-    parser = argparse.ArgumentParser(prog="differential", description=__doc__)
-    parser.add_argument("--seed", type=int, default=1)
-    parser.add_argument("--events", type=int, default=20_000)
-    parser.add_argument("--list-length", type=int, default=500)
-    parser.add_argument("--selftest", action="store_true")
+    parser = argparse.ArgumentParser(prog="python3 -m differential", description=__doc__)
+    add_run_options(parser, 20_000)
+    length = "how many of them in each run, which begins without a device (default: 500)"
+    parser.add_argument("--list-length", metavar="N", type=above_zero, default=500, help=length)
+    mistakes = "put mistakes into the library's results, which have to be found"
+    parser.add_argument("--selftest", action="store_true", help=mistakes)
     return parser.parse_args()
 
 
@@ -58,4 +61,4 @@ def main():
 
 
 if __name__ == "__main__":
-    sys.exit(main())
+    exit_in_words(main)

@@ -1,10 +1,9 @@
 """A shared object of the archive, since Python can't load an archive."""
 
-import subprocess
-import sys
-
+from .c_compiler import compile_c
 from .layout import check_layout
-from .paths import ARCHIVE, FOLDER, SHARED, compiler
+from .paths import ARCHIVE, FOLDER, ROOT, SHARED
+from .setup_error import SetupError
 
 # Without --whole-archive the linker would take nothing, since nothing asks for the functions.
 WHOLE = ("-Wl,--whole-archive", ARCHIVE, "-Wl,--no-whole-archive")
@@ -13,8 +12,8 @@ WHOLE = ("-Wl,--whole-archive", ARCHIVE, "-Wl,--no-whole-archive")
 def build():
     """The path of the shared object, made anew from the archive."""
     if not ARCHIVE.exists():
-        sys.exit(f"{ARCHIVE} is not there; `rt staticlib capi` makes it")
+        raise SetupError(f"{ARCHIVE.relative_to(ROOT)} is not there; `rt staticlib capi` makes it")
     FOLDER.mkdir(parents=True, exist_ok=True)
     check_layout()
-    subprocess.run([*compiler(), "-shared", "-o", SHARED, *WHOLE], check=True)
+    compile_c("-shared", "-o", SHARED, *WHOLE)
     return SHARED

@@ -4,7 +4,9 @@ import re
 import subprocess
 from ctypes import sizeof
 
-from .paths import FOLDER, HEADER, compiler
+from .c_compiler import compile_c
+from .paths import FOLDER, HEADER
+from .setup_error import SetupError
 from .structs import BY_NAME
 
 # Document 01's answers in the order of its table; their numbers are what the library is compared by.
@@ -28,7 +30,7 @@ NUMBERS = {
 }
 
 
-class WrongLayout(Exception):
+class WrongLayout(SetupError):
     """The bindings and the header disagree."""
 
 
@@ -55,7 +57,7 @@ def by_the_compiler(expressions):
     """The numbers that the C compiler gives."""
     source, binary = FOLDER / "layout.c", FOLDER / "layout"
     source.write_text(program(expressions))
-    subprocess.run([*compiler(), "-Wall", "-Werror", "-o", binary, source], check=True)
+    compile_c("-Wall", "-Werror", "-o", binary, source)
     printed = subprocess.run([binary], check=True, capture_output=True, text=True).stdout
     return [int(line) for line in printed.split()]
 

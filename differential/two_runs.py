@@ -1,15 +1,16 @@
 """The two runs of demand 3 on the built library, over random events with overflow markers added at random."""
 
 import argparse
-import sys
 import time
 
+from reference.generator.options import add_run_options
 from reference.rules.events import KINDS_ON_A_LINK
 
 from .library import load
 from .marked_lists import breach, run_pairs, shortest
 from .report import archive
 from .run_pair import after_marker
+from .setup_error import exit_in_words
 
 # What has to be seen, or the test could not have failed.
 NEEDED = (
@@ -31,8 +32,7 @@ def failed(library, failure):
 
 def arguments():
     parser = argparse.ArgumentParser(prog="python3 -m differential.two_runs", description=__doc__)
-    parser.add_argument("--seed", type=int, default=1, help="the same seed gives the same events (default: 1)")
-    parser.add_argument("--events", type=int, default=40_000, help="how many, of all runs (default: 40,000)")
+    add_run_options(parser, 40_000)
     return parser.parse_args()
 
 
@@ -55,4 +55,4 @@ def main():
 
 
 if __name__ == "__main__":
-    sys.exit(main())
+    exit_in_words(main)

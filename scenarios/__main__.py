@@ -5,6 +5,7 @@ import sys
 
 from differential.library import load
 from differential.report import archive
+from differential.setup_error import SetupError
 
 from .fields import TextError
 from .run import first_difference
@@ -50,8 +51,8 @@ def compare(texts, makers):
 def main():
     """The exit code: 1 for a difference."""
     options = arguments()
-    makers = sides(options)
     texts = read_all(options.names)
+    makers = sides(options)
     if options.write:
         filled = sum(write(text) for text in texts)
         print(f"{filled} results filled in from the second program")
@@ -67,5 +68,5 @@ def main():
 if __name__ == "__main__":
     try:
         sys.exit(main())
-    except TextError as error:
+    except (TextError, SetupError) as error:
         sys.exit(str(error))

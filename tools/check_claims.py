@@ -4,11 +4,10 @@
 In docs/CLAIMS.md a text in backticks with a `/` in it is a reference: a path from the repository's
 root, as `crates/sha256/specs/Hash.antt`, or such a path with names that the file declares, as
 `crates/sha256/specs/Hash.antt: sha256, pad`. Backticked text with no `/` is prose. Names are looked
-up in .antt, .rt and .py files. A document with no reference fails too.
-
-  check_claims.py             check docs/CLAIMS.md; exit 1 and name each bad line
-  check_claims.py --selftest  show that a missing file, a missing name and an empty document fail
+up in .antt, .rt and .py files. A document with no reference fails too. Each bad line is named, and
+the exit code is 1.
 """
+import argparse
 import pathlib
 import re
 import sys
@@ -18,11 +17,17 @@ ROOT = pathlib.Path(__file__).resolve().parent.parent
 CLAIMS = "docs/CLAIMS.md"
 
 
+def arguments():
+    parser = argparse.ArgumentParser(description=__doc__, formatter_class=argparse.RawDescriptionHelpFormatter)
+    parser.add_argument(
+        "--selftest", action="store_true", help="show that a missing file, a missing name and an empty document fail"
+    )
+    return parser.parse_args()
+
+
 def main():
-    if sys.argv[1:] == ["--selftest"]:
+    if arguments().selftest:
         selftest()
-    elif sys.argv[1:]:
-        sys.exit(__doc__)
     else:
         report(ROOT)
 

@@ -3,18 +3,18 @@
 
 SHA-256 comes from Python's hashlib and AES-128 from the command `openssl`; payloads and stored lists
 are computed by document 01's formulas. A result that a document publishes stands here too, and must
-equal what was computed. None of this reads our code.
-
-  expected_vectors.py          write crates/vectors/stdout
-  expected_vectors.py --check  exit 1 unless crates/vectors/stdout is what this computes
+equal what was computed. None of this reads our code. Without an option it writes crates/vectors/stdout.
 """
+import argparse
 import hashlib
 import pathlib
+import shutil
 import struct
 import subprocess
 import sys
 
-STORED = pathlib.Path(__file__).resolve().parent.parent / "crates" / "vectors" / "stdout"
+ROOT = pathlib.Path(__file__).resolve().parent.parent
+STORED = ROOT / "crates" / "vectors" / "stdout"
 
 # FIPS 197, appendix A.1: w0 to w43, as printed.
 A1_WORDS = """
@@ -34,12 +34,19 @@ d014f9a8 c9ee2589 e13f0cc8 b6630ca6
 B_KEY = "2b7e151628aed2a6abf7158809cf4f3c"
 
 
+def arguments():
+    parser = argparse.ArgumentParser(description=__doc__, formatter_class=argparse.RawDescriptionHelpFormatter)
+    parser.add_argument(
+        "--check", action="store_true", help="write nothing; exit 1 unless crates/vectors/stdout is what this computes"
+    )
+    return parser.parse_args()
+
+
 def main():
+    options = arguments()
     text = "".join(f"{name} {value}\n" for name, value in all_lines())
-    if sys.argv[1:] == ["--check"]:
+    if options.check:
         check(text)
-    elif sys.argv[1:]:
-        sys.exit(__doc__)
     else:
         STORED.write_text(text)
 
@@ -51,7 +58,7 @@ def all_lines():
 def check(text):
     stored = STORED.read_text() if STORED.exists() else ""
     if stored != text:
-        sys.exit(f"{STORED} is not what expected_vectors.py computes; run it to write the file anew")
+        sys.exit(f"{STORED.relative_to(ROOT)} is not what expected_vectors.py computes; run it to write the file anew")
     print(f"{STORED.name}: {len(text.splitlines())} lines, as computed")
 
 
@@ -254,6 +261,8 @@ def published(computed, document):
 
 
 def openssl_aes(way, key, block):
+    if not shutil.which("openssl"):
+        sys.exit("the command openssl is not there; Debian's package openssl has it")
     command = ["openssl", "enc", way, "-aes-128-ecb", "-nopad", "-K", key]
     return subprocess.run(command, input=bytes.fromhex(block), capture_output=True, check=True).stdout.hex()
 

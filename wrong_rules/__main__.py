@@ -7,6 +7,7 @@ import tempfile
 import time
 from dataclasses import dataclass
 
+from reference.generator.options import add_run_options
 from scenarios.fields import TextError
 from scenarios.texts import read_all
 
@@ -45,10 +46,7 @@ def arguments():
     parser.add_argument(
         "--scenarios-only", action="store_true", help="no random events: the scenarios have to find every wrong rule"
     )
-    parser.add_argument(
-        "--events", type=int, default=20_000, help="random events at most for each wrong rule (default: 20,000)"
-    )
-    parser.add_argument("--seed", type=int, default=1, help="the same seed gives the same events (default: 1)")
+    add_run_options(parser, 20_000)
     parser.add_argument(
         "--missed", action="store_true", help="print a line only for a wrong rule that one of the two does not find"
     )

@@ -7,6 +7,7 @@ import time
 from ..rules.model import step
 from .coverage import Coverage, not_reached, table
 from .generate import Generator
+from .options import add_run_options
 from .rare_cases import RareCases
 
 
@@ -25,8 +26,7 @@ def run(count, seed):
 
 def arguments():
     parser = argparse.ArgumentParser(prog="python3 -m reference.generator", description=__doc__)
-    parser.add_argument("--events", type=int, default=30_000, help="how many (default: 30,000)")
-    parser.add_argument("--seed", type=int, default=1, help="the same seed gives the same events (default: 1)")
+    add_run_options(parser, 30_000)
     return parser.parse_args()
 
 
