@@ -44,7 +44,7 @@ def compare(texts, makers):
             difference = first_difference(text, side)
             if difference:
                 differing += 1
-                print(f"{text.place(difference.line)}: {side.name}: {difference.words()}")
+                print(f"{text.place(difference.line.number)}: {side.name}: {difference.words()}")
     return differing
 
 

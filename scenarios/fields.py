@@ -24,6 +24,17 @@ NAMES = (
     "type",
     "with",
 )
+# The greatest number that each field can have.
+MOST = {
+    "account key": 15,
+    "capability": 2**8 - 1,
+    "clock": 2**64 - 1,
+    "length": 512,
+    "lent": 512,
+    "link": 2**8 - 1,
+    "passkey": 2**32 - 1,
+    "times": 1000,
+}
 # Fields without a value.
 BARE = ("failure", "no keys", "no list", "point rejected", "prompt hidden", "prompt shown", "success")
 
@@ -52,7 +63,10 @@ class Fields:
         return value
 
     def number(self, name, default=None):
-        return as_number(name, self.text(name, default))
+        number = as_number(name, self.text(name, default))
+        if number > MOST[name]:
+            raise TextError(f"{name} {number:,} is above {MOST[name]:,}")
+        return number
 
     def bytes(self, name, default=None):
         return as_bytes(name, self.text(name, default))

@@ -7,7 +7,7 @@ from reference.rules import events
 from reference.rules.device import Stage
 from reference.rules.stored_list import pack
 
-from .fields import Fields, TextError, as_bytes, as_number
+from .fields import Fields, TextError, as_bytes
 from .names import (
     ADDRESSES,
     FILTER_SALT,
@@ -16,7 +16,7 @@ from .names import (
     REQUEST_SALT,
     ROOM,
     SECRET,
-    account_key,
+    key_named,
     lent,
 )
 from .phone_writes import account_key_data, passkey_data, request_data
@@ -65,6 +65,8 @@ def asked(text):
     times = fields.number("times", 1)
     made = KINDS[kind](fields)
     fields.check_all_taken()
+    if times != 1 and not isinstance(made, events.KINDS):
+        raise TextError("only an event can be repeated")
     return made if times == 1 else Repeated(made, times)
 
 
@@ -90,7 +92,7 @@ def stored_list(fields):
         return fields.bytes("list")
     if fields.bare("no keys"):
         return pack([])
-    return pack([account_key(as_number("keys", word)) for word in fields.text("keys").split()])
+    return pack([key_named(f"key {number}") for number in fields.text("keys").split()])
 
 
 def new_ble(fields):

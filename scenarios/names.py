@@ -2,6 +2,8 @@
 
 from reference.generator.seeker_blocks import session_key
 
+from .fields import TextError
+
 # What power-on is given, if its line does not say otherwise.
 ADDRESSES = {
     "public": bytes.fromhex("3c5ab4102030"),
@@ -27,9 +29,9 @@ SEEKER_SALT = bytes(range(0x71, 0x7D))
 ROOM = 90
 
 
-def account_key(number):
+def account_key(digit):
     """Key n is 04 n1 n2 .. nf, with n as a hexadecimal digit, so that it is known again in a stored list."""
-    return bytes([0x04, *range(16 * number + 1, 16 * number + 16)])
+    return bytes([0x04, *range(16 * digit + 1, 16 * digit + 16)])
 
 
 def lent(size):
@@ -38,5 +40,11 @@ def lent(size):
 
 
 # The keys that a phone can encrypt with.
-KEYS = {f"key {number}": account_key(number) for number in range(1, 16)}
+KEYS = {f"key {digit}": account_key(digit) for digit in range(1, 16)}
 KEYS["shared secret"] = session_key(SECRET)
+
+
+def key_named(name):
+    if name not in KEYS:
+        raise TextError(f"there is no '{name}'")
+    return KEYS[name]

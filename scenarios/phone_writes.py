@@ -3,16 +3,19 @@
 from reference.generator import seeker_blocks
 
 from .fields import TextError, as_bytes
-from .names import ADDRESSES, KEYS, PUBLIC_KEY, SEEKER_SALT, account_key
+from .names import ADDRESSES, PUBLIC_KEY, SEEKER_SALT, key_named
+
+# A seeker's passkey has 3 bytes.
+MOST_PASSKEY = 2**24 - 1
 
 
 def request_data(fields):
     """The request; a phone that has no account key sends its public key behind it."""
     if fields.has("bytes"):
         return fields.bytes("bytes")
-    new_phone = fields.values.get("with") == "shared secret"
-    block = request_block(fields, encryption_key(fields))
-    return resized(fields, block + PUBLIC_KEY, 80 if new_phone else 16)
+    name = fields.text("with")
+    block = request_block(fields, key_named(name))
+    return resized(fields, block + PUBLIC_KEY, 80 if name == "shared secret" else 16)
 
 
 def request_block(fields, key):
@@ -33,24 +36,19 @@ def passkey_data(fields):
     if fields.has("bytes"):
         return fields.bytes("bytes")
     kind = fields.sized_bytes("type", 1, b"\x02")
-    passkey, key = fields.number("passkey"), encryption_key(fields)
+    passkey, key = fields.number("passkey"), key_named(fields.text("with"))
+    if passkey > MOST_PASSKEY:
+        raise TextError(f"a seeker's passkey is at most {MOST_PASSKEY:,}")
     return resized(fields, seeker_blocks.passkey_block(key, passkey, SEEKER_SALT, kind[0]), 16)
 
 
 def account_key_data(fields):
     if fields.has("bytes"):
         return fields.bytes("bytes")
-    new = account_key(fields.number("account key"))
+    new = key_named(f"key {fields.number('account key')}")
     kind = fields.sized_bytes("type", 1, new[:1])
-    block = seeker_blocks.account_key_block(encryption_key(fields), kind + new[1:])
+    block = seeker_blocks.account_key_block(key_named(fields.text("with")), kind + new[1:])
     return resized(fields, block, 16)
-
-
-def encryption_key(fields):
-    name = fields.text("with")
-    if name not in KEYS:
-        raise TextError(f"'with {name}': no such key")
-    return KEYS[name]
 
 
 def resized(fields, data, size):

@@ -4,17 +4,17 @@ from dataclasses import dataclass
 
 from differential.guarded_memory import InterfaceViolation
 
+from .fields import TextError
 from .results import in_words
 from .texts import Line
 
 
 @dataclass(frozen=True)
 class Difference:
-    """A line, and the result that it got; `events` counts the lines up to there."""
+    """A line, and the result that it got instead of its own."""
 
     line: Line
     found: object
-    events: int
 
     def words(self):
         if isinstance(self.found, InterfaceViolation):
@@ -22,20 +22,26 @@ class Difference:
         found = in_words(self.found, self.line.asked)
         if self.line.result is None:
             return f"the text has no result; found: {found}"
-        return f"the text says: {in_words(self.line.result, self.line.asked)}; found: {found}"
+        expected = in_words(self.line.result, self.line.asked)
+        if expected == found:
+            return f"{found}, but the lent output holds {self.found.reply.out.hex()}"
+        return f"the text says: {expected}; found: {found}"
 
 
 def first_difference(text, side):
     """The first difference of a text, or None."""
-    for events, line in enumerate(text.lines, start=1):
-        found = result_or_violation(side, line.asked)
+    for line in text.lines:
+        found = result(text, line, side)
         if found != line.result:
-            return Difference(line, found, events)
+            return Difference(line, found)
     return None
 
 
-def result_or_violation(side, asked):
+def result(text, line, side):
+    """The result of a line on this side; what broke the interface takes its place."""
     try:
-        return side.result(asked)
+        return side.result(line.asked)
     except InterfaceViolation as violation:
         return violation
+    except TextError as error:
+        raise TextError(f"{text.place(line.number)}: {error}") from None

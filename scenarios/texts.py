@@ -1,7 +1,7 @@
 """The text files: comments, blank lines, and lines of an event or a question with its result."""
 
 import pathlib
-from dataclasses import dataclass, replace
+from dataclasses import dataclass
 
 from .fields import TextError
 from .lines import asked
@@ -29,8 +29,9 @@ class Text:
     raw: list
     lines: list
 
-    def place(self, line):
-        return f"{self.path.parent.parent.name}/{self.path.parent.name}/{self.path.name}:{line.number}"
+    def place(self, number):
+        """The file and the line's number, for messages."""
+        return f"{self.path.parent.parent.name}/{self.path.parent.name}/{self.path.name}:{number}"
 
 
 def read_all(names):
@@ -60,10 +61,8 @@ def holds_line(raw):
 def read_line(text, number, raw):
     """The line; an error names the file and the number."""
     words, arrow, result = (part.strip() for part in raw.partition(ARROW))
-    line = Line(number, words, None, None)
     try:
-        question = asked(words)
-        expected = from_words(result, question) if arrow else None
+        found = asked(words)
+        return Line(number, words, found, from_words(result, found) if arrow else None)
     except TextError as error:
-        raise TextError(f"{text.place(line)}: {error}") from None
-    return replace(line, asked=question, result=expected)
+        raise TextError(f"{text.place(number)}: {error}") from None

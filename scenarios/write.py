@@ -2,6 +2,7 @@
 
 from .lines import KINDS, kind_and_fields
 from .results import in_words
+from .run import result
 from .sides import SecondProgram
 from .texts import ARROW, holds_line
 
@@ -13,7 +14,7 @@ def results(text):
     """The result of each line by its number: the one that it has, or that of the second program."""
     side, found = SecondProgram(), {}
     for line in text.lines:
-        computed = side.result(line.asked)
+        computed = result(text, line, side)
         found[line.number] = in_words(line.result or computed, line.asked)
     return found
 

@@ -25,7 +25,7 @@ def by_scenarios(rules, texts, file):
     for text in sorted(texts, key=lambda text: text.path.stem not in first):
         difference = first_difference(text, SecondProgram(rules))
         if difference:
-            return text.place(difference.line)
+            return text.place(difference.line.number)
     return None
 
 

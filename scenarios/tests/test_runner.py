@@ -3,6 +3,7 @@
 import pathlib
 import tempfile
 import unittest
+from dataclasses import replace
 
 from ..fields import TextError
 from ..run import first_difference
@@ -51,6 +52,15 @@ class Comparing(Texts):
         for part, other in changes:
             self.assertIsNotNone(self.difference(f"{power_on}{line} -> {right.replace(part, other)}"))
 
+    def test_bytes_behind_those_written_count(self):
+        class WritesTooMuch(SecondProgram):
+            def result(self, asked):
+                found = super().result(asked)
+                return replace(found, reply=replace(found.reply, out=b"?"))
+
+        found = first_difference(self.text(RIGHT), WritesTooMuch())
+        self.assertEqual(found.words(), "0, but the lent output holds 3f")
+
     def test_missing_result(self):
         found = self.difference("power-on  keys 1")
         self.assertEqual(found.words(), "the text has no result; found: 0")
@@ -83,6 +93,9 @@ class Errors(Texts):
         self.assertIn("is not hexadecimal", self.error("power-on  list 0x"))
         self.assertIn("is no result", self.error("power-on  keys 1 -> 0, tired 1"))
         self.assertIn("either 'success' or 'failure'", self.error("pairing ended  link 0, clock 0"))
+        self.assertIn("link 256 is above 255", self.error("link up  link 256, clock 0"))
+        self.assertIn("there is no 'key 16'", self.error("power-on  keys 16"))
+        self.assertIn("only an event can be repeated", self.error("stored list  times 2"))
 
     def test_they_name_the_file_and_the_line(self):
         with self.assertRaises(TextError) as caught:
@@ -95,8 +108,9 @@ class Errors(Texts):
         self.assertIn("there is no text lockoutt", str(caught.exception))
 
     def test_no_device_yet(self):
-        with self.assertRaises(TextError):
+        with self.assertRaises(TextError) as caught:
             first_difference(self.text("link up  link 0, clock 0 -> 0"), SecondProgram())
+        self.assertIn("texts/sample.txt:1: no power-on", str(caught.exception))
 
 
 class Writing(Texts):
