@@ -23,6 +23,14 @@ def many_failures(random, device):
     device.failures = random.choice((11, 12, 128, 255))
 
 
+def unknown_salt_length(random, device):
+    """A salt that is remembered has 2 or 8 bytes."""
+    if device.spent.count == 0:
+        device.spent.count = 1
+    place = random.randrange(device.spent.count)
+    device.spent.salts[place].length = random.choice((0, 1, 3, 7, 9, 128, 255))
+
+
 def unknown_stage(random, device):
     device.sessions[random.randrange(LINKS)].stage = random.choice((6, 7, 128, 255))
 
@@ -58,6 +66,7 @@ def random_bytes(random, device):
 NO_DEVICE = (
     many_salts,
     many_failures,
+    unknown_salt_length,
     unknown_stage,
     unknown_pairing,
     long_list,
@@ -86,6 +95,15 @@ def free_salts(random, device):
     return spent.count < MOST_SALTS
 
 
+def behind_salts(random, device):
+    """The bytes behind a remembered salt's length."""
+    spent = device.spent
+    short = [salt for salt in spent.salts[: spent.count] if salt.length == 2]
+    for salt in short:
+        salt.bytes[2:] = list(random.randbytes(6))
+    return bool(short)
+
+
 def behind_list(random, device):
     room = STORED_LIST_MAX - device.stored.length
     device.stored.bytes[device.stored.length :] = list(random.randbytes(room))
@@ -105,7 +123,7 @@ def reserved(random, device):
     return True
 
 
-NOT_IN_USE = (idle_link, free_salts, behind_list, no_failure, reserved)
+NOT_IN_USE = (idle_link, free_salts, behind_salts, behind_list, no_failure, reserved)
 
 
 # ---- numbers that the header bounds nowhere
@@ -121,6 +139,6 @@ def any_numbers(random, device):
         session.passkey = random.getrandbits(32)
         session.key[:] = list(random.randbytes(16))
     for salt in device.spent.salts:
-        salt.length = random.randrange(256)
+        salt.length = random.choice((2, 8))
     device.spent.count = random.randrange(MOST_SALTS + 1)
     device.failures = random.randrange(11)

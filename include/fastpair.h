@@ -112,10 +112,11 @@ typedef struct {
 /* A device: read it as you like, hand it in as you got it. It has no padding: no unused or reserved byte keeps
  * anything of a dropped key (an owner's key stays in `stored`), and equal devices are equal byte by byte.
  *
- * FP_NOT_A_DEVICE is the answer to a `stored` that is no stored list, more than 16 salts, more than 10 failures, a stage
- * above FP_STAGE_PAIRED and a `pairing` above 1. Any other bytes are served by the rules as they stand. Not looked at, and
- * zero in the device that comes back: the fields of an idle link, salts past `count`, bytes of the list past `length`,
- * `failed_at` while `failures` is 0, and what is reserved. With FP_NOT_A_DEVICE every byte comes back as it was. */
+ * FP_NOT_A_DEVICE is the answer to a `stored` that is no stored list, more than 16 salts, a remembered salt of other than
+ * 2 or 8 bytes, more than 10 failures, a stage above FP_STAGE_PAIRED and a `pairing` above 1. Any other bytes are served
+ * by the rules as they stand. Not looked at, and zero in the device that comes back: the fields of an idle link, salts past
+ * `count`, bytes of a salt past its length, bytes of the list past `length`, `failed_at` while `failures` is 0, and what
+ * is reserved. With FP_NOT_A_DEVICE every byte comes back as it was. */
 typedef struct {
     uint64_t clock;
     fp_session sessions[FP_LINKS];

@@ -12,45 +12,49 @@ use lib.Seq.{take-all, take-suc, take-length, take-at, drop-append-add, drop-dro
 use borrow.Author.Tests.{leb-true, eqb-true}
 use Rattle.laws.proofs.All.{all-get, all-append}
 use Rattle.laws.proofs.Choice.{and-left, and-right}
-use Rattle.laws.proofs.Lists.{split4}
+use Rattle.laws.proofs.Lists.{getD4-front}
 use Rattle.laws.specs.BigEndian.{number2}
 use Rattle.laws.specs.Lists.{All}
 use Rattle.account_keys.specs.Keys.{Valid, Sized, limit, held, kept, owned}
-use Rattle.account_keys.specs.Promises.{ReadsBack, OnlyWritings}
-use Rattle.account_keys.specs.StoredList.{formNumber, keyAt, keysIn, keyBytes, wellSized, writing, reading, readingOf}
+use Rattle.account_keys.specs.Promises.{WritesWithinMax, ReadsBack, OnlyWritings}
+use Rattle.account_keys.specs.StoredList.{keyAt, keysIn, keyBytes, wellSized, writing, reading, readingOf}
 use Rattle.account_keys.specs.declared.AccountKey.{AccountKey}
 use Rattle.account_keys.specs.declared.ListForm.the-variants.{WellFormed, Malformed}
 use Rattle.account_keys.specs.declared.Reading.{Reading}
 use Rattle.basics.specs.Bytes.{sixteenAt}
-use Rattle.account_keys.proofs.Laws.{nowhere, held-kept, kept-valid, count-held}
-use Rattle.account_keys.proofs.StoredList.{bytes-snoc, text-long, keys-long, accepted, sizes-agree}
+use Rattle.account_keys.proofs.Laws.{absentKey, held-kept, kept-valid, count-held}
+use Rattle.account_keys.proofs.StoredList.{keyBytes-snoc, length-writing, length-keysIn, reading-owned, sizes-agree}
+
+pub writes-within-max : WritesWithinMax
+writes-within-max ks v =
+    omega (arith, length-writing (held ks) (v .sized), v .canonical .few, count-held ks (v .canonical))
 
 -- ---- read what was written
 
 -- key i of the bytes of a list of keys
-bytes-at : (l : List AccountKey) → All Sized l → (i : ℕ) → i < length l
-    → sixteenAt (16 * i) (keyBytes l) ≡ getD l i nowhere .bytes
+keyBytes-at : (l : List AccountKey) → All Sized l → (i : ℕ) → i < length l
+    → sixteenAt (16 * i) (keyBytes l) ≡ getD l i absentKey .bytes
 unfolding keyBytes
-bytes-at [] p i h = absurd (not-suc-le-zero h)
-bytes-at (k ∷ ks) p zero h = take-at (k .bytes) (keyBytes ks) 16 (p .0)
-bytes-at (k ∷ ks) p (suc i) h =
+keyBytes-at [] p i h = absurd (not-suc-le-zero h)
+keyBytes-at (k ∷ ks) p zero h = take-at (k .bytes) (keyBytes ks) 16 (p .0)
+keyBytes-at (k ∷ ks) p (suc i) h =
     let at : 16 * suc i ≡ length (k .bytes) + 16 * i = omega (arith, p .0) in
-    rw (at, drop-append-add (k .bytes) (keyBytes ks) (16 * i)) (bytes-at ks (p .1) i (le-of-suc-le-suc h))
+    rw (at, drop-append-add (k .bytes) (keyBytes ks) (16 * i)) (keyBytes-at ks (p .1) i (le-of-suc-le-suc h))
 
-key-written : (l : List AccountKey) → All Sized l → (i : ℕ) → i < length l → keyAt (writing l) i
-    ≡ getD l i nowhere
+keyAt-writing : (l : List AccountKey) → All Sized l → (i : ℕ) → i < length l → keyAt (writing l) i
+    ≡ getD l i absentKey
 unfolding writing
-key-written l p i h =
-    let e : sixteenAt (4 + 16 * i) (writing l) ≡ getD l i nowhere .bytes =
-    rw (← drop-drop (16 * i) 4 (writing l)) (bytes-at l p i h)
+keyAt-writing l p i h =
+    let e : sixteenAt (4 + 16 * i) (writing l) ≡ getD l i absentKey .bytes =
+    rw (← drop-drop (16 * i) 4 (writing l)) (keyBytes-at l p i h)
     in
     λ j. record { bytes = e j }
 
-keys-written : (l : List AccountKey) → All Sized l → (n : ℕ) → n ≤ length l → keysIn (writing l) n ≡ take n l
+keysIn-writing : (l : List AccountKey) → All Sized l → (n : ℕ) → n ≤ length l → keysIn (writing l) n ≡ take n l
 unfolding keysIn
-keys-written l p zero h = refl
-keys-written l p (suc n) h =
-    rw (keys-written l p n (omega arith), key-written l p n h, take-suc l n nowhere h)
+keysIn-writing l p zero h = refl
+keysIn-writing l p (suc n) h =
+    rw (keysIn-writing l p n (omega arith), keyAt-writing l p n h, take-suc l n absentKey h)
 
 pub reads-back : ReadsBack
 unfolding writing
@@ -58,11 +62,11 @@ reads-back ks v =
     let l : List AccountKey = held ks in
     let n : ks .count ≡ length l = count-held ks (v .canonical) in
     let few : length l ≤ limit = omega (arith, v .canonical .few) in
-    let long : length (writing l) ≡ 4 + 16 * length l = text-long l (v .sized) ∙ regroup (length l) in
-    let keys : keysIn (writing l) (length l) ≡ l = keys-written l (v .sized) (length l) (le-refl (length l))
+    let long : length (writing l) ≡ 4 + 16 * length l = length-writing l (v .sized) ∙ regroup (length l) in
+    let keys : keysIn (writing l) (length l) ≡ l = keysIn-writing l (v .sized) (length l) (le-refl (length l))
     ∙ take-length l in
     sizes-agree (writing l) (omega (arith, long)) (omega (arith, long, few)) refl few long
-    ∙ ap readingOf keys ∙ accepted l (v .known) ∙ (λ i. record
+    ∙ ap readingOf keys ∙ reading-owned l (v .known) ∙ (λ i. record
     { form = WellFormed; keys = sym (v .canonical .whole) i })
   where
     regroup : (n : ℕ) → 2 + 16 * n + 2 ≡ 4 + 16 * n
@@ -70,39 +74,39 @@ reads-back ks v =
 
 -- ---- write what was read
 
-keys-bytes : (b : List ℕ) (n : ℕ) → keyBytes (keysIn b n) ≡ take (16 * n) (drop 4 b)
+keyBytes-keysIn : (b : List ℕ) (n : ℕ) → keyBytes (keysIn b n) ≡ take (16 * n) (drop 4 b)
 unfolding keysIn keyBytes
-keys-bytes b zero = refl
-keys-bytes b (suc n) =
+keyBytes-keysIn b zero = refl
+keyBytes-keysIn b (suc n) =
     let more : 16 * suc n ≡ 16 * n + 16 = omega arith in
-    bytes-snoc (keysIn b n) (keyAt b n)
-    ∙ rw (keys-bytes b n, more, take-add (16 * n) 16 (drop 4 b), drop-drop (16 * n) 4 b)
+    keyBytes-snoc (keysIn b n) (keyAt b n)
+    ∙ rw (keyBytes-keysIn b n, more, take-add (16 * n) 16 (drop 4 b), drop-drop (16 * n) 4 b)
 
-keys-sized : (b : List ℕ) (n : ℕ) → 4 + 16 * n ≤ length b → All Sized (keysIn b n)
+keysIn-sized : (b : List ℕ) (n : ℕ) → 4 + 16 * n ≤ length b → All Sized (keysIn b n)
 unfolding keysIn
-keys-sized b zero h = tt
-keys-sized b (suc n) h =
+keysIn-sized b zero h = tt
+keysIn-sized b (suc n) h =
     let inside : 16 ≤ length (drop (4 + 16 * n) b) = simp length-drop (omega arith) in
     let key : Sized (keyAt b n) = length-take-le 16 (drop (4 + 16 * n) b) inside in
-    all-append Sized (keysIn b n) (keyAt b n ∷ []) (keys-sized b n (omega arith)) (key, tt)
+    all-append Sized (keysIn b n) (keyAt b n ∷ []) (keysIn-sized b n (omega arith)) (key, tt)
 
 -- the header says what it must
-header : (b : List ℕ) → All (λ x. x < 256) b → 4 ≤ length b → number2 (getD b 0 0) (getD b 1 0) ≡ length b - 2
+writing-keysIn : (b : List ℕ) → All (λ x. x < 256) b → 4 ≤ length b → number2 (getD b 0 0) (getD b 1 0) ≡ length b - 2
     → getD b 2 0 ≡ 1
     → length b ≡ 4 + 16 * getD b 3 0 → writing (keysIn b (getD b 3 0)) ≡ b
 unfolding writing
-header b p h e v s =
+writing-keysIn b p h e v s =
     let n : ℕ = getD b 3 0 in
-    let count : length (keysIn b n) ≡ n = keys-long b n in
+    let count : length (keysIn b n) ≡ n = length-keysIn b n in
     let b0 : getD b 0 0 < 256 = all-get (λ x. x < 256) b p 0 0 (omega arith) in
     let b1 : getD b 1 0 < 256 = all-get (λ x. x < 256) b p 1 0 (omega arith) in
     let high : (2 + 16 * n) / 256 % 256 ≡ getD b 0 0 = omega arith in
     let low : (2 + 16 * n) / 1 % 256 ≡ getD b 1 0 = omega arith in
     let rest : keyBytes (keysIn b n) ≡ drop 4 b =
-    keys-bytes b n ∙ take-all (16 * n) (drop 4 b) (simp length-drop (omega arith))
+    keyBytes-keysIn b n ∙ take-all (16 * n) (drop 4 b) (simp length-drop (omega arith))
     in
     rw (count, high, low, rest)
-    (ap (λ (x : ℕ). getD b 0 0 ∷ getD b 1 0 ∷ x ∷ getD b 3 0 ∷ drop 4 b) (sym v) ∙ sym (split4 b 0 h))
+    (ap (λ (x : ℕ). getD b 0 0 ∷ getD b 1 0 ∷ x ∷ getD b 3 0 ∷ drop 4 b) (sym v) ∙ sym (getD4-front b 0 h))
 
 -- which tests a list that reads has passed
 record Passed (b : List ℕ) : Type 0 where
@@ -127,20 +131,20 @@ passed b e =
       whole = eqb-true _ _ t5;
     }
 
-differ : Malformed ≡ WellFormed → ⊥
-differ e = let z : _≡_ {A = ℕ} 14 0 = ap formNumber e in omega arith
+forms-differ : Malformed ≡ WellFormed → ⊥
+forms-differ e = let z : _≡_ {A = ℕ} 0 1 = cc in omega arith
 
 -- how a list reads, by the two tests
-reads-as : (b : List ℕ) → wellSized b ≡ true → reading b ≡ readingOf (keysIn b (getD b 3 0))
+reading-sized : (b : List ℕ) → wellSized b ≡ true → reading b ≡ readingOf (keysIn b (getD b 3 0))
 unfolding reading
-reads-as b e = rw e
+reading-sized b e = rw e
 
-reads-not : (b : List ℕ) → wellSized b ≡ false → reading b .form ≡ Malformed
+reading-not-sized : (b : List ℕ) → wellSized b ≡ false → reading b .form ≡ Malformed
 unfolding reading
-reads-not b e = rw e
+reading-not-sized b e = rw e
 
-keys-not : (l : List AccountKey) → owned l ≡ false → readingOf l .form ≡ Malformed
-keys-not l e = rw e
+reading-not-owned : (l : List AccountKey) → owned l ≡ false → readingOf l .form ≡ Malformed
+reading-not-owned l e = rw e
 
 -- a list that reads has well-formed sizes and owned keys
 both-passed : (b : List ℕ) → reading b .form ≡ WellFormed → (wellSized b ≡ true) ×
@@ -150,9 +154,9 @@ both-passed b f = go (wellSized b) (owned (keysIn b (getD b 3 0))) refl refl
     go : (s o : Bool) → wellSized b ≡ s → owned (keysIn b (getD b 3 0)) ≡ o
         → (wellSized b ≡ true) × (owned (keysIn b (getD b 3 0)) ≡ true)
     go true true p q = (p, q)
-    go true false p q = absurd (differ (sym (ap (λ (r : Reading). r .form) (reads-as b p) ∙ keys-not
+    go true false p q = absurd (forms-differ (sym (ap (λ (r : Reading). r .form) (reading-sized b p) ∙ reading-not-owned
         (keysIn b (getD b 3 0)) q) ∙ f))
-    go false o p q = absurd (differ (sym (reads-not b p) ∙ f))
+    go false o p q = absurd (forms-differ (sym (reading-not-sized b p) ∙ f))
 
 -- what a list that reads gives
 module _ (b : List ℕ) (f : reading b .form ≡ WellFormed) where
@@ -163,18 +167,18 @@ module _ (b : List ℕ) (f : reading b .form ≡ WellFormed) where
   sizes = passed b (tests .0)
 
   keys-are : reading b .keys ≡ kept (keysIn b (getD b 3 0))
-  keys-are = ap (λ (x : Reading). x .keys) (reads-as b (tests .0) ∙ accepted (keysIn b (getD b 3 0)) (tests .1))
+  keys-are = ap (λ (x : Reading). x .keys) (reading-sized b (tests .0) ∙ reading-owned (keysIn b (getD b 3 0)) (tests .1))
 
   pub reads-valid : Valid (reading b .keys)
   reads-valid =
-      let few : length (keysIn b (getD b 3 0)) ≤ limit = omega (arith, keys-long b (getD b 3 0), sizes .few) in
+      let few : length (keysIn b (getD b 3 0)) ≤ limit = omega (arith, length-keysIn b (getD b 3 0), sizes .few) in
       rw keys-are
-      (kept-valid (keysIn b (getD b 3 0)) few (keys-sized b (getD b 3 0) (omega (arith, sizes .whole))) (tests .1))
+      (kept-valid (keysIn b (getD b 3 0)) few (keysIn-sized b (getD b 3 0) (omega (arith, sizes .whole))) (tests .1))
 
   reads-whole : All (λ x. x < 256) b → writing (held (reading b .keys)) ≡ b
   reads-whole p =
       rw (keys-are, held-kept (keysIn b (getD b 3 0)))
-      (header b p (sizes .enough) (sizes .sizes) (sizes .version) (sizes .whole))
+      (writing-keysIn b p (sizes .enough) (sizes .sizes) (sizes .version) (sizes .whole))
 
 pub only-writings : OnlyWritings
 only-writings b p f = (reads-valid b f, reads-whole b f p)

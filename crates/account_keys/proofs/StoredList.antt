@@ -4,7 +4,7 @@ use mathlib.Core.Bool.{Bool, true, false, not}
 use mathlib.Core.List.{List, [], _∷_, _++_, append-assoc, append-nil}
 use mathlib.Core.Path.{_≡_, refl, sym, ap, ap₂, _∙_}
 use Prim.Native.Nat.{ℕ, zero, suc, _+_, _-_, _*_, _/_, _%_, _≤_, _<_}
-use native.Mathlib.Nat.{add-zero, add-suc, mod-eq-of-lt}
+use native.Mathlib.Nat.{add-zero, add-suc, div-one, mod-eq-of-lt}
 use native.Mathlib.Numerals.{add-one}
 use native.Mathlib.Omega.{arith}
 use lib.Dec.{eqb}
@@ -13,7 +13,7 @@ use lib.Seq.{take-length, drop-length, paste, take-suc, getD-take, drop-drop, le
 use borrow.Author.Tests.{le-leb, lt-leb, eq-eqb, ne-eqb}
 use borrow.Rule.Slice.PartMut.{putMid, same-len-mid}
 use Rattle.laws.proofs.All.{all-get, all-take}
-use Rattle.laws.proofs.Lists.{paste-at, front4}
+use Rattle.laws.proofs.Lists.{paste-at, set4-front}
 use Rattle.laws.specs.BigEndian.{number2}
 use Rattle.laws.specs.Choice.{_and_, _or_}
 use Rattle.laws.specs.Lists.{All}
@@ -24,51 +24,51 @@ use Rattle.account_keys.specs.declared.AccountKeys.{AccountKeys}
 use Rattle.account_keys.specs.declared.ListForm.the-variants.{WellFormed}
 use Rattle.basics.specs.Bytes.{same, sixteenAt}
 use Rattle.basics.specs.Output.{reportOf, placed}
-use Rattle.basics.specs.declared.Output.the-variants.{Written, TooShort}
+use Rattle.basics.specs.declared.Answer.the-variants.{Taken, OutputTooShort}
 use Rattle.basics.specs.declared.Report.{Report}
-use Rattle.account_keys.proofs.Laws.{nowhere, held-kept}
+use Rattle.account_keys.proofs.Laws.{absentKey, held-kept}
 use Rattle.basics.proofs.Laws.{same-comm}
 use Rattle.basics.proofs.Lent.{left-alone, all-written}
 
 -- ---- writing
 
-pub bytes-snoc : (l : List AccountKey) (k : AccountKey) → keyBytes (l ++ (k ∷ [])) ≡ keyBytes l ++ k .bytes
+pub keyBytes-snoc : (l : List AccountKey) (k : AccountKey) → keyBytes (l ++ (k ∷ [])) ≡ keyBytes l ++ k .bytes
 unfolding keyBytes
-bytes-snoc [] k = append-nil (k .bytes)
-bytes-snoc (x ∷ xs) k = rw (bytes-snoc xs k) (sym (append-assoc (x .bytes) (keyBytes xs) (k .bytes)))
+keyBytes-snoc [] k = append-nil (k .bytes)
+keyBytes-snoc (x ∷ xs) k = rw (keyBytes-snoc xs k) (sym (append-assoc (x .bytes) (keyBytes xs) (k .bytes)))
 
-pub bytes-long : (l : List AccountKey) → All Sized l → length (keyBytes l) ≡ 16 * length l
+pub length-keyBytes : (l : List AccountKey) → All Sized l → length (keyBytes l) ≡ 16 * length l
 unfolding keyBytes
-bytes-long [] p = refl
-bytes-long (x ∷ xs) p = rw (length-append (x .bytes) (keyBytes xs), p .0, bytes-long xs (p .1)) (omega arith)
+length-keyBytes [] p = refl
+length-keyBytes (x ∷ xs) p = rw (length-append (x .bytes) (keyBytes xs), p .0, length-keyBytes xs (p .1)) (omega arith)
 
 -- a turn of the loop that writes
-pub bytes-more : (l o : List ℕ) (ks : List AccountKey) (i n : ℕ) → All Sized (take n ks) → i < n → n ≤ length ks
+pub keyBytes-more : (l o : List ℕ) (ks : List AccountKey) (i n : ℕ) → All Sized (take n ks) → i < n → n ≤ length ks
     → l ≡ keyBytes (take i (take n ks)) ++ drop (16 * i) o
-    → paste l (16 * i) (getD ks i nowhere .bytes) 16 ≡ keyBytes (take (i + 1) (take n ks)) ++ drop
+    → paste l (16 * i) (getD ks i absentKey .bytes) 16 ≡ keyBytes (take (i + 1) (take n ks)) ++ drop
     (16 * (i + 1)) o
-bytes-more l o ks i n p h j e =
+keyBytes-more l o ks i n p h j e =
     let long : length (take n ks) ≡ n = length-take-le n ks j in
     let size : length (take i (take n ks)) ≡ i = length-take-le i (take n ks) (omega arith) in
     let front : length (keyBytes (take i (take n ks))) ≡ 16 * i =
-    bytes-long (take i (take n ks)) (all-take Sized i (take n ks) p) ∙ rw size
+    length-keyBytes (take i (take n ks)) (all-take Sized i (take n ks) p) ∙ rw size
     in
-    let key : getD (take n ks) i nowhere ≡ getD ks i nowhere = getD-take n ks i nowhere h in
-    let sized : Sized (getD ks i nowhere) = rw key at (all-get Sized (take n ks) p i nowhere (omega arith)) in
-    let next : take (i + 1) (take n ks) ≡ take i (take n ks) ++ (getD ks i nowhere ∷ []) =
-    rw (add-one, take-suc (take n ks) i nowhere (omega arith), key)
+    let key : getD (take n ks) i absentKey ≡ getD ks i absentKey = getD-take n ks i absentKey h in
+    let sized : Sized (getD ks i absentKey) = rw key at (all-get Sized (take n ks) p i absentKey (omega arith)) in
+    let next : take (i + 1) (take n ks) ≡ take i (take n ks) ++ (getD ks i absentKey ∷ []) =
+    rw (add-one, take-suc (take n ks) i absentKey (omega arith), key)
     in
     let at : 16 * (i + 1) ≡ 16 * i + 16 = omega arith in
-    rw (e, next, bytes-snoc (take i (take n ks)) (getD ks i nowhere), at, ← drop-drop 16 (16 * i) o)
-    (paste-at (keyBytes (take i (take n ks))) (drop (16 * i) o) (getD ks i nowhere .bytes) (16 * i) 16 front
+    rw (e, next, keyBytes-snoc (take i (take n ks)) (getD ks i absentKey), at, ← drop-drop 16 (16 * i) o)
+    (paste-at (keyBytes (take i (take n ks))) (drop (16 * i) o) (getD ks i absentKey .bytes) (16 * i) 16 front
     sized)
 
 -- ---- reading
 
-pub keys-long : (b : List ℕ) (n : ℕ) → length (keysIn b n) ≡ n
+pub length-keysIn : (b : List ℕ) (n : ℕ) → length (keysIn b n) ≡ n
 unfolding keysIn
-keys-long b zero = refl
-keys-long b (suc n) = rw (length-append (keysIn b n) (keyAt b n ∷ []), keys-long b n) (add-one n)
+length-keysIn b zero = refl
+length-keysIn b (suc n) = rw (length-append (keysIn b n) (keyAt b n ∷ []), length-keysIn b n) (add-one n)
 
 member-snoc : (l : List AccountKey) (k x : AccountKey) → member (l ++ (k ∷ [])) x ≡
     (member l x or same (k .bytes) (x .bytes))
@@ -84,14 +84,14 @@ member-snoc (y ∷ ys) k x =
     or-assoc true b c = refl
     or-assoc false b c = refl
 
-regroup : (a m s o b n : Bool)
+owned-regroup : (a m s o b n : Bool)
     → (a and (not (m or s) and (o and (b and not n)))) ≡ ((a and (not m and o)) and (b and not (s or n)))
-regroup false m s o b n = refl
-regroup true true s o b n = refl
-regroup true false true true true n = refl
-regroup true false true true false n = refl
-regroup true false true false b n = refl
-regroup true false false o b n = refl
+owned-regroup false m s o b n = refl
+owned-regroup true true s o b n = refl
+owned-regroup true false true true true n = refl
+owned-regroup true false true true false n = refl
+owned-regroup true false true false b n = refl
+owned-regroup true false false o b n = refl
 
 -- the last key is checked against those before it
 pub owned-snoc : (l : List AccountKey) (k : AccountKey)
@@ -100,7 +100,7 @@ unfolding owned
 owned-snoc [] k = refl
 owned-snoc (x ∷ xs) k =
     rw (member-snoc xs k x, owned-snoc xs k, same-comm (x .bytes) (k .bytes))
-    (regroup (eqb (getD (x .bytes) 0 0) 4) (member xs x) (same (k .bytes) (x .bytes)) (owned xs)
+    (owned-regroup (eqb (getD (x .bytes) 0 0) 4) (member xs x) (same (k .bytes) (x .bytes)) (owned xs)
     (eqb (getD (k .bytes) 0 0) 4) (member xs k))
 
 and-false : (p : Bool) → (p and false) ≡ false
@@ -109,46 +109,46 @@ and-false false = refl
 
 -- a turn of the loop that reads, by what it finds of the next key
 module _ (b : List ℕ) (i : ℕ) where
-  pub keys-more : keysIn b (i + 1) ≡ keysIn b i ++ (keyAt b i ∷ [])
+  pub keysIn-more : keysIn b (i + 1) ≡ keysIn b i ++ (keyAt b i ∷ [])
   unfolding keysIn
-  keys-more = rw add-one
+  keysIn-more = rw add-one
 
   owned-more : owned (keysIn b (i + 1)) ≡ (owned (keysIn b i) and
       (eqb (getD (keyAt b i .bytes) 0 0) 0x04 and not (member (keysIn b i) (keyAt b i))))
-  owned-more = ap owned keys-more ∙ owned-snoc (keysIn b i) (keyAt b i)
+  owned-more = ap owned keysIn-more ∙ owned-snoc (keysIn b i) (keyAt b i)
 
-  pub fresh : owned (keysIn b i) ≡ true → getD (keyAt b i .bytes) 0 0 ≡ 0x04 → member (keysIn b i) (keyAt b i)
+  pub owned-next : owned (keysIn b i) ≡ true → getD (keyAt b i .bytes) 0 0 ≡ 0x04 → member (keysIn b i) (keyAt b i)
       ≡ false
       → owned (keysIn b (i + 1)) ≡ true
-  fresh o e m = owned-more ∙ rw (o, eq-eqb (getD (keyAt b i .bytes) 0 0) 0x04 e, m)
+  owned-next o e m = owned-more ∙ rw (o, eq-eqb (getD (keyAt b i .bytes) 0 0) 0x04 e, m)
 
-  pub strange : (getD (keyAt b i .bytes) 0 0 ≡ 0x04 → ⊥) → owned (keysIn b (i + 1)) ≡ false
-  strange e = owned-more ∙ rw (ne-eqb (getD (keyAt b i .bytes) 0 0) 0x04 e) (and-false (owned (keysIn b i)))
+  pub owned-wrong-first : (getD (keyAt b i .bytes) 0 0 ≡ 0x04 → ⊥) → owned (keysIn b (i + 1)) ≡ false
+  owned-wrong-first e = owned-more ∙ rw (ne-eqb (getD (keyAt b i .bytes) 0 0) 0x04 e) (and-false (owned (keysIn b i)))
 
-  pub twice : member (keysIn b i) (keyAt b i) ≡ true → owned (keysIn b (i + 1)) ≡ false
-  twice m =
+  pub owned-twice : member (keysIn b i) (keyAt b i) ≡ true → owned (keysIn b (i + 1)) ≡ false
+  owned-twice m =
       owned-more ∙ rw (m, and-false (eqb (getD (keyAt b i .bytes) 0 0) 0x04)) (and-false (owned (keysIn b i)))
 
 -- a key that is refused spoils every longer list
-spoils : (b : List ℕ) (i d : ℕ) → owned (keysIn b i) ≡ false → owned (keysIn b (i + d)) ≡ false
+owned-longer : (b : List ℕ) (i d : ℕ) → owned (keysIn b i) ≡ false → owned (keysIn b (i + d)) ≡ false
 unfolding keysIn
-spoils b i zero e = rw add-zero e
-spoils b i (suc d) e = rw (add-suc i d, owned-snoc (keysIn b (i + d)) (keyAt b (i + d)), spoils b i d e)
+owned-longer b i zero e = rw add-zero e
+owned-longer b i (suc d) e = rw (add-suc i d, owned-snoc (keysIn b (i + d)) (keyAt b (i + d)), owned-longer b i d e)
 
-pub refused : (b : List ℕ) (i n : ℕ) → i ≤ n → owned (keysIn b i) ≡ false → readingOf (keysIn b n) ≡ noReading
-refused b i n h e =
+pub reading-refused : (b : List ℕ) (i n : ℕ) → i ≤ n → owned (keysIn b i) ≡ false → readingOf (keysIn b n) ≡ noReading
+reading-refused b i n h e =
     let m : n ≡ i + (n - i) = omega arith in
-    rw (m, spoils b i (n - i) e)
+    rw (m, owned-longer b i (n - i) e)
 
-pub accepted : (l : List AccountKey) → owned l ≡ true → readingOf l
+pub reading-owned : (l : List AccountKey) → owned l ≡ true → readingOf l
     ≡ record { form = WellFormed; keys = kept l }
-accepted l e = rw e
+reading-owned l e = rw e
 
 -- ---- the header's tests, in the order in which they are made
 module _ (b : List ℕ) where
-  pub short : length b < 4 → reading b ≡ noReading
+  pub shorter-than-header : length b < 4 → reading b ≡ noReading
   unfolding reading wellSized
-  short h = rw (lt-leb 4 (length b) h)
+  shorter-than-header h = rw (lt-leb 4 (length b) h)
 
   module _ (h : 4 ≤ length b) where
     pub other-length : (number2 (getD b 0 0) (getD b 1 0) ≡ length b - 2 → ⊥) → reading b ≡ noReading
@@ -167,9 +167,9 @@ module _ (b : List ℕ) where
           )
 
       module _ (v : getD b 2 0 ≡ 0x01) where
-        pub too-many : limit < getD b 3 0 → reading b ≡ noReading
+        pub too-many-keys : limit < getD b 3 0 → reading b ≡ noReading
         unfolding reading wellSized
-        too-many n =
+        too-many-keys n =
             rw (
               le-leb 4 (length b) h,
               eq-eqb (number2 (getD b 0 0) (getD b 1 0)) (length b - 2) e,
@@ -203,23 +203,23 @@ module _ (b : List ℕ) where
 -- what the loop that reads asks and builds, said of the keys passed
 module _ (b : List ℕ) (i : ℕ) {ks : AccountKeys} {block : List ℕ} (e : ks ≡ kept (keysIn b i))
     (f : block ≡ sixteenAt (4 + 16 * i) b) where
-  pub asked : {r t : Bool} → r ≡ member (held ks) (record { bytes = block }) → r ≡ t → member (keysIn b i)
+  pub member-keysIn : {r t : Bool} → r ≡ member (held ks) (record { bytes = block }) → r ≡ t → member (keysIn b i)
       (keyAt b i) ≡ t
-  asked g h = sym (ap₂ member (ap held e ∙ held-kept (keysIn b i)) (λ j. record { bytes = f j })) ∙ sym g ∙ h
+  member-keysIn g h = sym (ap₂ member (ap held e ∙ held-kept (keysIn b i)) (λ j. record { bytes = f j })) ∙ sym g ∙ h
 
-  pub added : {r : AccountKeys} → r ≡ kept (held ks ++ (record { bytes = block } ∷ [])) → r ≡ kept
+  pub kept-keysIn : {r : AccountKeys} → r ≡ kept (held ks ++ (record { bytes = block } ∷ [])) → r ≡ kept
       (keysIn b (i + 1))
-  added g =
+  kept-keysIn g =
       g
       ∙ ap₂ (λ (l : List AccountKey) (k : AccountKey). kept (l ++ (k ∷ [])))
       (ap held e ∙ held-kept (keysIn b i)) (λ j. record { bytes = f j })
-      ∙ ap kept (sym (keys-more b i))
+      ∙ ap kept (sym (keysIn-more b i))
 
 -- ---- the whole of what is written
 
-pub text-long : (l : List AccountKey) → All Sized l → length (writing l) ≡ 2 + 16 * length l + 2
+pub length-writing : (l : List AccountKey) → All Sized l → length (writing l) ≡ 2 + 16 * length l + 2
 unfolding writing
-text-long l p = rw (bytes-long l p) (omega arith)
+length-writing l p = rw (length-keyBytes l p) (omega arith)
 
 -- four bytes stored, and the part after them lent and filled with k
 lent-after-four : (o x p k : List ℕ) (a b c d m : ℕ) → x ≡ a ∷ b ∷ c ∷ d ∷ drop 4 o → length k ≡ m
@@ -242,39 +242,39 @@ lent-after-four o x p k a b c d m e f g =
 
 -- a list of n keys and an output
 module _ (l : List AccountKey) (p : All Sized l) (n : ℕ) (e : n ≡ length l) (o : List ℕ) where
-  long : length (writing l) ≡ 2 + 16 * n + 2
-  long = text-long l p ∙ ap (λ (m : ℕ). 2 + 16 * m + 2) (sym e)
+  length-writing-of : length (writing l) ≡ 2 + 16 * n + 2
+  length-writing-of = length-writing l p ∙ ap (λ (m : ℕ). 2 + 16 * m + 2) (sym e)
 
-  text-is : n < 256 → (2 + 16 * n) / 256 % 256 ∷ (2 + 16 * n) / 1 % 256 ∷ 1 ∷ n % 256 ∷ keyBytes l ≡ writing l
+  writing-is : n < 256 → (2 + 16 * n) / 256 % 256 ∷ (2 + 16 * n) % 256 ∷ 1 ∷ n % 256 ∷ keyBytes l ≡ writing l
   unfolding writing
-  text-is few = rw (mod-eq-of-lt few, e)
+  writing-is few = rw (mod-eq-of-lt few, e, div-one)
 
   -- the output is too short for the list
-  pub no-room : length o < 2 + 16 * n + 2
-      → (_≡_ {A = Report} (record { output = TooShort; length = 0 }) (reportOf (writing l) o)) ×
+  pub writing-no-room : length o < 2 + 16 * n + 2
+      → (_≡_ {A = Report} (record { answer = OutputTooShort; length = 0 }) (reportOf (writing l) o)) ×
       (o ≡ placed (writing l) o)
-  no-room h = left-alone (writing l) o (omega (arith, long)) refl
+  writing-no-room h = left-alone (writing l) o (omega (arith, length-writing-of)) refl
 
   -- the header stored and the keys written after it
-  pub has-room : n < 256 → 2 + 16 * n + 2 ≤ length o → (x q : List ℕ)
-      → x ≡ set (set (set (set o 0 ((2 + 16 * n) / 256 % 256)) 1 ((2 + 16 * n) / 1 % 256)) 2 1) 3 (n % 256)
+  pub writing-stored : n < 256 → 2 + 16 * n + 2 ≤ length o → (x q : List ℕ)
+      → x ≡ set (set (set (set o 0 ((2 + 16 * n) / 256 % 256)) 1 ((2 + 16 * n) % 256)) 2 1) 3 (n % 256)
       → q ≡ keyBytes l ++ drop (16 * n) (take (length x - 4) (drop 4 x))
-      → (_≡_ {A = Report} (record { output = Written; length = 2 + 16 * n + 2 }) (reportOf (writing l) o))
+      → (_≡_ {A = Report} (record { answer = Taken; length = 2 + 16 * n + 2 }) (reportOf (writing l) o))
       × (putMid 4 (length x - 4) x q ≡ placed (writing l) o)
-  has-room few h x q f g =
-      let size : length (keyBytes l) ≡ 16 * n = bytes-long l p ∙ ap (λ (m : ℕ). 16 * m) (sym e) in
-      let front : x ≡ (2 + 16 * n) / 256 % 256 ∷ (2 + 16 * n) / 1 % 256 ∷ 1 ∷ n % 256 ∷ drop 4 o =
-      f ∙ front4 o ((2 + 16 * n) / 256 % 256) ((2 + 16 * n) / 1 % 256) 1 (n % 256) (omega arith)
+  writing-stored few h x q f g =
+      let size : length (keyBytes l) ≡ 16 * n = length-keyBytes l p ∙ ap (λ (m : ℕ). 16 * m) (sym e) in
+      let front : x ≡ (2 + 16 * n) / 256 % 256 ∷ (2 + 16 * n) % 256 ∷ 1 ∷ n % 256 ∷ drop 4 o =
+      f ∙ set4-front o ((2 + 16 * n) / 256 % 256) ((2 + 16 * n) % 256) 1 (n % 256) (omega arith)
       in
-      let text : (2 + 16 * n) / 256 % 256 ∷ (2 + 16 * n) / 1 % 256 ∷ 1 ∷ n % 256 ∷ keyBytes l
-      ≡ writing l = text-is few in
-      let end : 4 + 16 * n ≡ length (writing l) = omega (arith, long) in
-      all-written (writing l) o (omega (arith, long)) refl (sym long)
-      (lent-after-four o x q (keyBytes l) ((2 + 16 * n) / 256 % 256) ((2 + 16 * n) / 1 % 256) 1 (n % 256)
+      let text : (2 + 16 * n) / 256 % 256 ∷ (2 + 16 * n) % 256 ∷ 1 ∷ n % 256 ∷ keyBytes l
+      ≡ writing l = writing-is few in
+      let end : 4 + 16 * n ≡ length (writing l) = omega (arith, length-writing-of) in
+      all-written (writing l) o (omega (arith, length-writing-of)) refl (sym length-writing-of)
+      (lent-after-four o x q (keyBytes l) ((2 + 16 * n) / 256 % 256) ((2 + 16 * n) % 256) 1 (n % 256)
       (16 * n) front size g
       ∙ ap₂ (λ (w : List ℕ) (m : ℕ). w ++ drop m o) text end)
 
 -- stores and a lent part keep the output's length
-pub lent-long : (o x p : List ℕ) (a b c d : ℕ) → x ≡ set (set (set (set o 0 a) 1 b) 2 c) 3 d
+pub length-lent : (o x p : List ℕ) (a b c d : ℕ) → x ≡ set (set (set (set o 0 a) 1 b) 2 c) 3 d
     → length p ≡ length (take (length x - 4) (drop 4 x)) → length (putMid 4 (length x - 4) x p) ≡ length o
-lent-long o x p a b c d e h = same-len-mid 4 (length x - 4) x p h ∙ rw e (simp length-set)
+length-lent o x p a b c d e h = same-len-mid 4 (length x - 4) x p h ∙ rw e (simp length-set)

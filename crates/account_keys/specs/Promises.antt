@@ -2,14 +2,18 @@
 -- Assumes nothing.
 use mathlib.Core.List.{List}
 use mathlib.Core.Path.{_≡_}
-use Prim.Native.Nat.{ℕ, _<_}
-use lib.ListN.{getD}
+use Prim.Native.Nat.{ℕ, _≤_, _<_}
+use lib.ListN.{length, getD}
 use Rattle.laws.specs.Lists.{All}
 use Rattle.account_keys.specs.Keys.{Valid, Sized, held, kept, stored}
-use Rattle.account_keys.specs.StoredList.{writing, reading}
+use Rattle.account_keys.specs.StoredList.{storedListMax, writing, reading}
 use Rattle.account_keys.specs.declared.AccountKey.{AccountKey}
 use Rattle.account_keys.specs.declared.AccountKeys.{AccountKeys}
 use Rattle.account_keys.specs.declared.ListForm.the-variants.{WellFormed}
+
+-- the stored list of every valid value has room in storedListMax bytes
+abbrev pub WritesWithinMax : Type 0
+WritesWithinMax = (ks : AccountKeys) → Valid ks → length (writing (held ks)) ≤ storedListMax
 
 -- "The stored list reads back as it was written."
 abbrev pub ReadsBack : Type 0

@@ -9,15 +9,9 @@ use Rattle.laws.specs.BigEndian.{bytes, number2}
 use Rattle.laws.specs.Choice.{if_then_else_, _and_}
 use Rattle.account_keys.specs.Keys.{limit, kept, owned}
 use Rattle.account_keys.specs.declared.AccountKey.{AccountKey}
-use Rattle.account_keys.specs.declared.ListForm.{ListForm}
 use Rattle.account_keys.specs.declared.ListForm.the-variants.{WellFormed, Malformed}
 use Rattle.account_keys.specs.declared.Reading.{Reading}
 use Rattle.basics.specs.Bytes.{sixteenAt}
-
--- document 01's numbers: 0 "taken", 14 "stored list malformed"
-abbrev pub formNumber : ListForm → ℕ
-formNumber WellFormed = 0
-formNumber Malformed = 14
 
 -- "n keys of 16 bytes", one after the other
 unfoldable pub keyBytes : List AccountKey → List ℕ
@@ -27,6 +21,10 @@ keyBytes (k ∷ ks) = k .bytes ++ keyBytes ks
 -- "Two-byte big-endian length of what follows, version byte 0x01, count n, then n keys of 16 bytes. Length is 2 + 16n"
 unfoldable pub writing : List AccountKey → List ℕ
 writing l = bytes 2 (2 + 16 * length l) ++ (0x01 ∷ length l ∷ keyBytes l)
+
+-- "Writing needs 4 + 16n bytes": the most bytes that a stored list has
+abbrev pub storedListMax : ℕ
+storedListMax = 4 + 16 * limit
 
 -- key i of a stored list, counted from 0
 abbrev pub keyAt : List ℕ → ℕ → AccountKey

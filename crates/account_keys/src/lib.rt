@@ -1,5 +1,5 @@
 // The owners' account keys, and the stored list: document 01, "The device and its events" and "Stored list".
-use basics::Output;
+use basics::Answer;
 use basics::Report;
 ghost use mathlib.Core.Path.{_≡_};
 ghost use mathlib.Core.List.{[], _∷_, _++_};
@@ -13,6 +13,9 @@ ghost use Rattle.account_keys.specs.StoredList.{keyBytes, keysIn, noRead
 const LIMIT: usize = 5;
 // The keys that stay when one is removed from a full list.
 const LAST: usize = LIMIT - 1;
+
+// The most bytes that a stored list has: specs/StoredList.antt, `storedListMax`.
+pub const STORED_LIST_MAX: usize = 4 + 16 * LIMIT;
 
 // The key that a phone wrote to become an owner.
 pub struct AccountKey {
@@ -115,17 +118,17 @@ impl AccountKeys {
         let rest = 2 + 16 * n;
         if out.len() < rest + 2 {
             return Report {
-                output: Output::TooShort,
+                answer: Answer::OutputTooShort,
                 length: 0,
             };
         }
         out[0] = ((rest >> 8) % 256) as u8;
-        out[1] = ((rest >> 0) % 256) as u8;
+        out[1] = (rest % 256) as u8;
         out[2] = 0x01;
         out[3] = (n % 256) as u8;
         self.write_keys(&mut out[4..]);
         Report {
-            output: Output::Written,
+            answer: Answer::Taken,
             length: rest + 2,
         }
     }

@@ -7,15 +7,15 @@ use native.Mathlib.Omega.{arith}
 use lib.Bits.{bitOr}
 use lib.ListN.{length, getD, replicate, length-replicate}
 use lib.Seq.{getD-set-same}
-use Rattle.laws.proofs.All.{all-map}
-use Rattle.laws.proofs.Folds.{fold-keeps, fold-all, fold-fold, fold-order, permuted-long}
-use Rattle.laws.proofs.Or.{or-sets, or-keeps-at, or-order-at}
+use Rattle.laws.proofs.All.{all-implies}
+use Rattle.laws.proofs.Folds.{fold-keeps, fold-all, fold-fold, fold-order, length-permuted}
+use Rattle.laws.proofs.Or.{or-sets-bit, set-or-keeps-bit, set-or-comm}
 use Rattle.laws.specs.Lists.{All}
 use Rattle.account_keys.specs.declared.AccountKey.{AccountKey}
 use Rattle.advertising.specs.Filter.{filterSize, numbers, placeOf, byteOf, bitOf, withBit, withNumber, withKey, filter}
 use Rattle.advertising.specs.Promises.{HasBit, EveryKeyIsFound, OrderIsFree}
 use Rattle.sha256.specs.Hash.{sha256}
-use Rattle.advertising.proofs.Laws.{place-within, number-long, key-long, filter-long}
+use Rattle.advertising.proofs.Laws.{place-within, length-withNumber, length-withKey, length-filter}
 
 -- ---- every key is found
 
@@ -26,12 +26,12 @@ module _ (s : ℕ) (some : 0 < s) where
   own-bit f x e =
       rw (getD-set-same f (byteOf (placeOf s x)) (bitOr (getD f (byteOf (placeOf s x)) 0)
       (2 ^ bitOf (placeOf s x))) 0 (rw e (place-within x s some)))
-      (or-sets (getD f (byteOf (placeOf s x)) 0) (bitOf (placeOf s x)))
+      (or-sets-bit (getD f (byteOf (placeOf s x)) 0) (bitOf (placeOf s x)))
 
   -- a bit that is set stays set
   number-keeps : (f : List ℕ) (m x : ℕ) → HasBit f m → HasBit (withNumber s f x) m
   unfolding withBit
-  number-keeps f m x h = or-keeps-at f (byteOf (placeOf s x)) (byteOf m) (2 ^ bitOf (placeOf s x)) (bitOf m) h
+  number-keeps f m x h = set-or-keeps-bit f (byteOf (placeOf s x)) (byteOf m) (2 ^ bitOf (placeOf s x)) (bitOf m) h
 
   module _ (salt : List ℕ) where
     -- the bits of a key's eight numbers
@@ -41,13 +41,13 @@ module _ (s : ℕ) (some : 0 < s) where
     own-bits : (f : List ℕ) (k : AccountKey) → length f ≡ s → HasKey (withKey s salt f k) k
     unfolding withKey
     own-bits f k e =
-        fold-all (withNumber s) (λ g. length g ≡ s) (λ g x. HasBit g (placeOf s x)) (number-long s s) own-bit
+        fold-all (withNumber s) (λ g. length g ≡ s) (λ g x. HasBit g (placeOf s x)) (length-withNumber s s) own-bit
         (λ g x y. number-keeps g (placeOf s x) y) f (numbers (sha256 (k .bytes ++ salt))) e
 
     key-keeps : (f : List ℕ) (k other : AccountKey) → HasKey f k → HasKey (withKey s salt f other) k
     unfolding withKey
     key-keeps f k other h =
-        all-map (λ x. HasBit f (placeOf s x)) (λ x. HasBit (withKey s salt f other) (placeOf s x))
+        all-implies (λ x. HasBit f (placeOf s x)) (λ x. HasBit (withKey s salt f other) (placeOf s x))
         (λ x p. fold-keeps (withNumber s) (λ g. HasBit g (placeOf s x))
         (λ g y. number-keeps g (placeOf s x) y) f
         (numbers (sha256 (other .bytes ++ salt))) p) (numbers (sha256 (k .bytes ++ salt))) h
@@ -61,14 +61,14 @@ unfolding filter
 found-in keys salt =
     let s : ℕ = filterSize (length keys) in
     let some : 0 < s = enough (length keys) in
-    fold-all (withKey s salt) (λ f. length f ≡ s) (HasKey s some salt) (λ f k. key-long s s salt f k)
+    fold-all (withKey s salt) (λ f. length f ≡ s) (HasKey s some salt) (λ f k. length-withKey s s salt f k)
     (own-bits s some salt) (key-keeps s some salt) (replicate s 0) keys (length-replicate s 0)
 
 pub every-key-is-found : EveryKeyIsFound
 every-key-is-found keys salt =
     subst (λ (s : ℕ). All (λ k. All (λ x. HasBit (filter keys salt) (placeOf s x))
     (numbers (sha256 (k .bytes ++ salt)))) keys)
-    (sym (filter-long keys salt)) (found-in keys salt)
+    (sym (length-filter keys salt)) (found-in keys salt)
 
 -- ---- the order is free
 
@@ -76,7 +76,7 @@ numbers-exchange : (s : ℕ) (f : List ℕ) (x y : ℕ) → withNumber s (withNu
     (withNumber s f y) x
 unfolding withBit
 numbers-exchange s f x y =
-    or-order-at f (byteOf (placeOf s x)) (byteOf (placeOf s y)) (2 ^ bitOf (placeOf s x))
+    set-or-comm f (byteOf (placeOf s x)) (byteOf (placeOf s y)) (2 ^ bitOf (placeOf s x))
     (2 ^ bitOf (placeOf s y))
 
 keys-exchange : (s : ℕ) (salt f : List ℕ) (k l : AccountKey) → withKey s salt (withKey s salt f k) l
@@ -89,6 +89,6 @@ keys-exchange s salt f k l =
 pub order-is-free : OrderIsFree
 unfolding filter
 order-is-free keys other salt p =
-    ap (λ (n : ℕ). foldl (withKey (filterSize n) salt) (replicate (filterSize n) 0) keys) (permuted-long p)
+    ap (λ (n : ℕ). foldl (withKey (filterSize n) salt) (replicate (filterSize n) 0) keys) (length-permuted p)
     ∙ fold-order (withKey (filterSize (length other)) salt) (keys-exchange (filterSize (length other)) salt) p
     (replicate (filterSize (length other)) 0)

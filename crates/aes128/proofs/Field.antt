@@ -2,12 +2,11 @@
 -- Assumes nothing.
 use mathlib.Core.Path.{_≡_, refl, sym, _∙_, ap}
 use Prim.Native.Nat.{ℕ, zero, suc, _*_, _/_, _%_, _^_, _<_}
-use native.Mathlib.Nat.{mod-lt}
-use native.Mathlib.Omega.{arith}
+use native.Mathlib.Nat.{mod-lt, zero-mul, one-mul}
 use lib.Dec.{lit<}
-use lib.Bits.{xor-lt, xor-shr, xor-mod}
+use lib.Bits.{xor-lt, xor-shr, xor-mod, xor-zero-r}
 use Rattle.laws.proofs.Additive.{Additive}
-use Rattle.laws.proofs.Bitwise.{by-bits}
+use Rattle.laws.proofs.Bitwise.{by-bit, by-bits}
 use Rattle.laws.proofs.Xor.{xor-exchange, xor-shl}
 use Rattle.aes128.specs.Field.{_⊕_, _•_, bit, xTimes, plusIf, product}
 
@@ -22,9 +21,19 @@ reduced a b =
     rw (xor-shr a b 7, xor-mod (a / 2 ^ 7) (b / 2 ^ 7) 1)
     (by-bits (λ m n. (m ⊕ n) * 27 ≡ m * 27 ⊕ n * 27) refl refl refl refl (bit a 7) (bit b 7) (bit-lt a 7) (bit-lt b 7))
 
-pub xTimes-add : (a b : ℕ) → xTimes (a ⊕ b) ≡ xTimes a ⊕ xTimes b
+-- a bit is set or not, and adds as much as it is times b
+plusIf-times : (d b sum : ℕ) → d < 2 → plusIf d b sum ≡ sum ⊕ d * b
+plusIf-times d b sum =
+    by-bit (λ d. plusIf d b sum ≡ sum ⊕ d * b) (rw zero-mul (sym (xor-zero-r sum))) (rw one-mul) d
+
+pub xTimes-is : (b : ℕ) → xTimes b ≡ b * 2 % 256 ⊕ bit b 7 * 27
 unfolding xTimes
-xTimes-add a b = rw (shifted a b, reduced a b) (xor-exchange (a * 2 % 256) (b * 2 % 256) (bit a 7 * 27) (bit b 7 * 27))
+xTimes-is b = plusIf-times (bit b 7) 27 (b * 2 % 256) (bit-lt b 7)
+
+pub xTimes-add : (a b : ℕ) → xTimes (a ⊕ b) ≡ xTimes a ⊕ xTimes b
+xTimes-add a b =
+    rw (xTimes-is (a ⊕ b), xTimes-is a, xTimes-is b, shifted a b, reduced a b)
+    (xor-exchange (a * 2 % 256) (b * 2 % 256) (bit a 7 * 27) (bit b 7 * 27))
 
 plusIf-add : (d a b p q : ℕ) → plusIf d (a ⊕ b) (p ⊕ q) ≡ plusIf d a p ⊕ plusIf d b q
 plusIf-add zero a b p q = refl
@@ -41,13 +50,13 @@ pub mul-additive : (c : ℕ) → Additive (λ b. c • b)
 unfolding _•_
 mul-additive c = record { adds = product-add 8 c }
 
-pub xTimes-lt : (b : ℕ) → xTimes b < 256
-unfolding xTimes
-xTimes-lt b = xor-lt 8 (b * 2 % 256) (bit b 7 * 27) (mod-lt (b * 2) (lit< tt)) (omega (arith, bit-lt b 7))
-
 plusIf-lt : (d b p : ℕ) → b < 256 → p < 256 → plusIf d b p < 256
 plusIf-lt zero b p h k = k
 plusIf-lt (suc d) b p h k = xor-lt 8 p b k h
+
+pub xTimes-lt : (b : ℕ) → xTimes b < 256
+unfolding xTimes
+xTimes-lt b = plusIf-lt (bit b 7) 27 (b * 2 % 256) (lit< tt) (mod-lt (b * 2) (lit< tt))
 
 product-lt : (n c b : ℕ) → b < 256 → product n c b < 256
 unfolding product

@@ -79,49 +79,49 @@ invSubBytes-subBytes s p =
     ∙ state-at s (p .long)
 
 -- SHIFTROWS after SUBBYTES, as both directions pass between rounds
-abbrev sent : List ℕ → List ℕ
-sent s = shiftRows (subBytes s)
+abbrev shiftSub : List ℕ → List ℕ
+shiftSub s = shiftRows (subBytes s)
 
-sent-block : {s : List ℕ} → Block s → Block (sent s)
-sent-block p = shiftRows-block (subBytes-block p)
+shiftSub-block : {s : List ℕ} → Block s → Block (shiftSub s)
+shiftSub-block p = shiftRows-block (subBytes-block p)
 
-sent-back : (s : List ℕ) → Block s → invSubBytes (invShiftRows (sent s)) ≡ s
-sent-back s p = ap invSubBytes (invShiftRows-shiftRows (subBytes s) (subBytes-block p .long)) ∙ invSubBytes-subBytes s p
+shiftSub-back : (s : List ℕ) → Block s → invSubBytes (invShiftRows (shiftSub s)) ≡ s
+shiftSub-back s p = ap invSubBytes (invShiftRows-shiftRows (subBytes s) (subBytes-block p .long)) ∙ invSubBytes-subBytes s p
 
 module _ (w : List (List ℕ)) (block : List ℕ) (hw : (n : ℕ) → Bytes (getD w n [])) (hb : Block block) where
   rounds-block : (n : ℕ) → Block (rounds w block n)
   unfolding rounds
   rounds-block zero = hb
-  rounds-block (suc n) = addRoundKey-block (getD w (suc n) []) (mixColumns-block (sent-block (rounds-block n))) (hw (suc n))
+  rounds-block (suc n) = addRoundKey-block (getD w (suc n) []) (mixColumns-block (shiftSub-block (rounds-block n))) (hw (suc n))
 
-  added-back : (n : ℕ) → addRoundKey (rounds w block (suc n)) (getD w (suc n) []) ≡ mixColumns (sent (rounds w block n))
+  addRoundKey-back : (n : ℕ) → addRoundKey (rounds w block (suc n)) (getD w (suc n) []) ≡ mixColumns (shiftSub (rounds w block n))
   unfolding rounds
-  added-back n =
-      addRoundKey-twice (mixColumns (sent (rounds w block n))) (getD w (suc n) [])
-      (mixColumns-block (sent-block (rounds-block n)) .long)
+  addRoundKey-back n =
+      addRoundKey-twice (mixColumns (shiftSub (rounds w block n))) (getD w (suc n) [])
+      (mixColumns-block (shiftSub-block (rounds-block n)) .long)
 
   round-back : (n : ℕ)
-      → invMixColumns (addRoundKey (invSubBytes (invShiftRows (sent (rounds w block (suc n))))) (getD w (suc n) []))
-      ≡ sent (rounds w block n)
+      → invMixColumns (addRoundKey (invSubBytes (invShiftRows (shiftSub (rounds w block (suc n))))) (getD w (suc n) []))
+      ≡ shiftSub (rounds w block n)
   round-back n =
-      ap (λ s. invMixColumns (addRoundKey s (getD w (suc n) []))) (sent-back (rounds w block (suc n)) (rounds-block (suc n)))
-      ∙ ap invMixColumns (added-back n)
-      ∙ invMixColumns-mixColumns (sent (rounds w block n)) (sent-block (rounds-block n))
+      ap (λ s. invMixColumns (addRoundKey s (getD w (suc n) []))) (shiftSub-back (rounds w block (suc n)) (rounds-block (suc n)))
+      ∙ ap invMixColumns (addRoundKey-back n)
+      ∙ invMixColumns-mixColumns (shiftSub (rounds w block n)) (shiftSub-block (rounds-block n))
 
-  rounds-back : (n : ℕ) → invRounds w n (sent (rounds w block n)) ≡ sent (rounds w block 0)
+  rounds-back : (n : ℕ) → invRounds w n (shiftSub (rounds w block n)) ≡ shiftSub (rounds w block 0)
   unfolding invRounds
   rounds-back zero = refl
   rounds-back (suc n) = ap (invRounds w n) (round-back n) ∙ rounds-back n
 
 -- for every key schedule
-undone : (w : List (List ℕ)) (block : List ℕ) → ((n : ℕ) → Bytes (getD w n [])) → Block block
+invCipherBy-cipherBy : (w : List (List ℕ)) (block : List ℕ) → ((n : ℕ) → Bytes (getD w n [])) → Block block
     → invCipherBy w (cipherBy w block) ≡ block
 unfolding invCipherBy cipherBy rounds
-undone w block hw hb =
+invCipherBy-cipherBy w block hw hb =
     ap (λ t. addRoundKey (invSubBytes (invShiftRows (invRounds w 9 t))) (getD w 0 []))
-    (addRoundKey-twice (sent (rounds w s 9)) (getD w 10 []) (sent-block (rounds-block w s hw hs 9) .long))
+    (addRoundKey-twice (shiftSub (rounds w s 9)) (getD w 10 []) (shiftSub-block (rounds-block w s hw hs 9) .long))
     ∙ ap (λ t. addRoundKey (invSubBytes (invShiftRows t)) (getD w 0 [])) (rounds-back w s hw hs 9)
-    ∙ ap (λ t. addRoundKey t (getD w 0 [])) (sent-back s hs)
+    ∙ ap (λ t. addRoundKey t (getD w 0 [])) (shiftSub-back s hs)
     ∙ addRoundKey-twice block (getD w 0 []) (hb .long)
   where
     s : List ℕ
@@ -134,4 +134,4 @@ undone w block hw hb =
 pub decrypt-undoes-encrypt : Undoes
 unfolding cipher invCipher
 decrypt-undoes-encrypt key block hk hb =
-    undone (keyExpansion key) block (tabulate-all Bytes 11 (roundKey key) [] (λ i. lit< tt) (roundKey-lt key (hk .bytes))) hb
+    invCipherBy-cipherBy (keyExpansion key) block (tabulate-all Bytes 11 (roundKey key) [] (λ i. lit< tt) (roundKey-lt key (hk .bytes))) hb

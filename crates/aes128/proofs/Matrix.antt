@@ -7,7 +7,7 @@ use Prim.Native.Nat.{ℕ, _+_, _*_, _^_, _<_}
 use lib.Dec.{T, eqb, eqb→eq, ltb, lit<}
 use lib.ListN.{getD, replicate}
 use lib.Bits.{xor-zero-r}
-use Rattle.laws.proofs.Additive.{Additive, agree}
+use Rattle.laws.proofs.Additive.{Additive, additive-agree}
 use Rattle.laws.proofs.Table as table
 use Rattle.laws.proofs.Xor.{xor-exchange}
 use Rattle.aes128.specs.Field.{_⊕_, _•_, xTimes, product}
@@ -25,12 +25,12 @@ sum4-add a b c d e f g h =
     rw (xor-exchange a e b f, xor-exchange (a ⊕ b) (e ⊕ f) c g) (xor-exchange (a ⊕ b ⊕ c) (e ⊕ f ⊕ g) d h)
 
 -- the sum of four sums, by rows and by columns
-sum4-turn : (a b c d : ℕ → ℕ)
+sum4-transpose : (a b c d : ℕ → ℕ)
     → sum4 (sum4 (a 0) (a 1) (a 2) (a 3)) (sum4 (b 0) (b 1) (b 2) (b 3))
     (sum4 (c 0) (c 1) (c 2) (c 3)) (sum4 (d 0) (d 1) (d 2) (d 3))
     ≡ sum4 (sum4 (a 0) (b 0) (c 0) (d 0)) (sum4 (a 1) (b 1) (c 1) (d 1))
     (sum4 (a 2) (b 2) (c 2) (d 2)) (sum4 (a 3) (b 3) (c 3) (d 3))
-sum4-turn a b c d =
+sum4-transpose a b c d =
     sym
     (add (λ k. a k ⊕ b k ⊕ c k) d
     ∙ ap (λ x. x ⊕ sum4 (d 0) (d 1) (d 2) (d 3)) (add (λ k. a k ⊕ b k) c ∙ ap (λ x. x ⊕ sum4 (c 0) (c 1) (c 2) (c 3)) (add a b)))
@@ -54,24 +54,24 @@ abbrev inv : ℕ → ℕ → ℕ
 inv r c = getD (getD invMixMatrix r []) c 0
 
 -- what the byte x in row k of a column adds to row r by way of row j between the two matrices
-abbrev by : ℕ → ℕ → ℕ → ℕ → ℕ
-by r k j x = inv r j • (mix j k • x)
+abbrev term : ℕ → ℕ → ℕ → ℕ → ℕ
+term r k j x = inv r j • (mix j k • x)
 
-by-add : (r k j a b : ℕ) → by r k j (a ⊕ b) ≡ by r k j a ⊕ by r k j b
-by-add r k j a b =
+term-add : (r k j a b : ℕ) → term r k j (a ⊕ b) ≡ term r k j a ⊕ term r k j b
+term-add r k j a b =
     ap (λ x. inv r j • x) (mul-additive (mix j k) .adds a b) ∙ mul-additive (inv r j) .adds (mix j k • a) (mix j k • b)
 
 -- and what it adds in all
-passed : ℕ → ℕ → ℕ → ℕ
-passed r k x = sum4 (by r k 0 x) (by r k 1 x) (by r k 2 x) (by r k 3 x)
+entry : ℕ → ℕ → ℕ → ℕ
+entry r k x = sum4 (term r k 0 x) (term r k 1 x) (term r k 2 x) (term r k 3 x)
 
-passed-additive : (r k : ℕ) → Additive (passed r k)
-unfolding passed
-passed-additive r k =
+entry-additive : (r k : ℕ) → Additive (entry r k)
+unfolding entry
+entry-additive r k =
     record {
       adds = λ a b.
-          sum4-eq (by-add r k 0 a b) (by-add r k 1 a b) (by-add r k 2 a b) (by-add r k 3 a b)
-          ∙ sum4-add (by r k 0 a) (by r k 1 a) (by r k 2 a) (by r k 3 a) (by r k 0 b) (by r k 1 b) (by r k 2 b) (by r k 3 b);
+          sum4-eq (term-add r k 0 a b) (term-add r k 1 a b) (term-add r k 2 a b) (term-add r k 3 a b)
+          ∙ sum4-add (term r k 0 a) (term r k 1 a) (term r k 2 a) (term r k 3 a) (term r k 0 b) (term r k 1 b) (term r k 2 b) (term r k 3 b);
     }
 
 -- x in its own row, and nothing in another
@@ -84,7 +84,7 @@ unit-additive false = record { adds = λ a b. refl }
 
 -- the test, at row r of what a power of two in row k gives
 power : ℕ → ℕ → ℕ → ℕ → Bool
-power r k i x = eqb (passed r k (2 ^ i)) (unit (eqb r k) (2 ^ i))
+power r k i x = eqb (entry r k (2 ^ i)) (unit (eqb r k) (2 ^ i))
 
 powers : ℕ → ℕ → ℕ → Bool
 powers r k x = table.every (power r k) 0 (replicate 8 0)
@@ -93,37 +93,37 @@ rows : ℕ → ℕ → Bool
 rows r x = table.every (powers r) 0 (replicate 4 0)
 
 tested : T (table.every rows 0 (replicate 4 0))
-unfolding rows powers power passed _•_ product xTimes
+unfolding rows powers power entry _•_ product xTimes
 tested = tt
 
-undone : (r k x : ℕ) → r < 4 → k < 4 → x < 256 → passed r k x ≡ unit (eqb r k) x
+entry-unit : (r k x : ℕ) → r < 4 → k < 4 → x < 256 → entry r k x ≡ unit (eqb r k) x
 unfolding rows powers power
-undone r k x hr hk hx =
-    agree (passed-additive r k) (unit-additive (eqb r k)) 8
-    (λ i hi. eqb→eq (passed r k (2 ^ i)) (unit (eqb r k) (2 ^ i)) (table.at (power r k) (replicate 8 0) place i hi)) x hx
+entry-unit r k x hr hk hx =
+    additive-agree (entry-additive r k) (unit-additive (eqb r k)) 8
+    (λ i hi. eqb→eq (entry r k (2 ^ i)) (unit (eqb r k) (2 ^ i)) (table.every-at (power r k) (replicate 8 0) place i hi)) x hx
   where
     place : T (table.every (power r k) 0 (replicate 8 0))
-    place = table.at (powers r) (replicate 4 0) (table.at rows (replicate 4 0) tested r hr) k hk
+    place = table.every-at (powers r) (replicate 4 0) (table.every-at rows (replicate 4 0) tested r hr) k hk
 
 -- row r of a column x that passed through both matrices
-row : (r : ℕ) → r < 4 → (x : ℕ → ℕ) → ((k : ℕ) → x k < 256)
+row-product : (r : ℕ) → r < 4 → (x : ℕ → ℕ) → ((k : ℕ) → x k < 256)
     → times (getD invMixMatrix r []) (λ j. times (getD mixMatrix j []) x)
     ≡ sum4 (unit (eqb r 0) (x 0)) (unit (eqb r 1) (x 1)) (unit (eqb r 2) (x 2)) (unit (eqb r 3) (x 3))
-unfolding passed
-row r hr x hx =
+unfolding entry
+row-product r hr x hx =
     sum4-eq (part 0) (part 1) (part 2) (part 3)
-    ∙ sum4-turn (λ k. by r k 0 (x k)) (λ k. by r k 1 (x k)) (λ k. by r k 2 (x k)) (λ k. by r k 3 (x k))
+    ∙ sum4-transpose (λ k. term r k 0 (x k)) (λ k. term r k 1 (x k)) (λ k. term r k 2 (x k)) (λ k. term r k 3 (x k))
     ∙ sum4-eq (unit-at 0 tt) (unit-at 1 tt) (unit-at 2 tt) (unit-at 3 tt)
   where
-    part : (j : ℕ) → inv r j • times (getD mixMatrix j []) x ≡ sum4 (by r 0 j (x 0)) (by r 1 j (x 1)) (by r 2 j (x 2)) (by r 3 j (x 3))
+    part : (j : ℕ) → inv r j • times (getD mixMatrix j []) x ≡ sum4 (term r 0 j (x 0)) (term r 1 j (x 1)) (term r 2 j (x 2)) (term r 3 j (x 3))
     part j = mul-sum4 (inv r j) (mix j 0 • x 0) (mix j 1 • x 1) (mix j 2 • x 2) (mix j 3 • x 3)
 
-    unit-at : (k : ℕ) → T (ltb k 4) → passed r k (x k) ≡ unit (eqb r k) (x k)
-    unit-at k h = undone r k (x k) hr (lit< h) (hx k)
+    unit-at : (k : ℕ) → T (ltb k 4) → entry r k (x k) ≡ unit (eqb r k) (x k)
+    unit-at k h = entry-unit r k (x k) hr (lit< h) (hx k)
 
-row-is : (x : ℕ → ℕ) (r : ℕ) → r < 4
+row-unit : (x : ℕ → ℕ) (r : ℕ) → r < 4
     → sum4 (unit (eqb r 0) (x 0)) (unit (eqb r 1) (x 1)) (unit (eqb r 2) (x 2)) (unit (eqb r 3) (x 3)) ≡ x r
-row-is x =
+row-unit x =
     by-row (λ r. sum4 (unit (eqb r 0) (x 0)) (unit (eqb r 1) (x 1)) (unit (eqb r 2) (x 2)) (unit (eqb r 3) (x 3)) ≡ x r)
     (ap (λ y. y ⊕ 0 ⊕ 0) (xor-zero-r (x 0)) ∙ alone (x 0)) (alone (x 1)) (xor-zero-r (x 2)) refl
   where
@@ -136,7 +136,7 @@ invMixColumns-mixColumns s p =
     state-ext (λ r c. times (getD invMixMatrix r []) (λ j. at (mixColumns s) j c)) (at s)
     (λ r c hr hc.
     rw (mixed 0 c (lit< tt) hc, mixed 1 c (lit< tt) hc, mixed 2 c (lit< tt) hc, mixed 3 c (lit< tt) hc)
-    (row r hr (λ k. at s k c) (λ k. p .bytes (k + 4 * c)) ∙ row-is (λ k. at s k c) r hr))
+    (row-product r hr (λ k. at s k c) (λ k. p .bytes (k + 4 * c)) ∙ row-unit (λ k. at s k c) r hr))
     ∙ state-at s (p .long)
   where
     mixed : (j c : ℕ) → j < 4 → c < 4 → at (mixColumns s) j c ≡ times (getD mixMatrix j []) (λ k. at s k c)

@@ -22,16 +22,16 @@ word-step : (key : List ℕ) (i h k m j : ℕ) → h ≡ suc (suc (suc i)) → k
 unfolding word
 word-step key i h k m j p q r s = rw (q, p) (rw (r, s))
 
-made : (w x y z a b c d : List ℕ) (e : ℕ) → a ≡ xorWord w (xorWord (subWord (rotWord z)) (e ∷ 0 ∷ 0 ∷ 0 ∷ []))
+nextRoundKey-columns : (w x y z a b c d : List ℕ) (e : ℕ) → a ≡ xorWord w (xorWord (subWord (rotWord z)) (e ∷ 0 ∷ 0 ∷ 0 ∷ []))
     → b ≡ xorWord x a → c ≡ xorWord y b → d ≡ xorWord z c → columns a b c d ≡ nextRoundKey (columns w x y z) e
 unfolding nextRoundKey
-made w x y z a b c d e p q r s = rw (s, r, q, p)
+nextRoundKey-columns w x y z a b c d e p q r s = rw (s, r, q, p)
 
 -- each round key follows from the one before
 pub roundKey-next : (key : List ℕ) (n : ℕ) → roundKey key (suc n) ≡ nextRoundKey (roundKey key n) (xPower n)
 unfolding roundKey
 roundKey-next key n =
-    made (word key (4 * n)) (word key (4 * n + 1)) (word key (4 * n + 2)) (word key (4 * n + 3))
+    nextRoundKey-columns (word key (4 * n)) (word key (4 * n + 1)) (word key (4 * n + 2)) (word key (4 * n + 3))
     (word key (4 * suc n)) (word key (4 * suc n + 1)) (word key (4 * suc n + 2)) (word key (4 * suc n + 3)) (xPower (suc n - 1))
     (word-step key (4 * n) (4 * n + 3) (4 * suc n) 0 (suc n) (omega arith) (omega arith) (omega arith) (omega arith))
     (word-step key (4 * n + 1) (4 * suc n) (4 * suc n + 1) 1 (suc n) (omega arith) (omega arith) (omega arith) (omega arith))

@@ -7,10 +7,10 @@ use lib.ListN.{length}
 use Rattle.aes128.specs.Cipher.{cipher, cipherBy, invCipher, invCipherBy}
 use Rattle.aes128.specs.Rounds.{addRoundKey}
 
-pub cipher-long : (key block : List ℕ) → length (cipher key block) ≡ 16
+pub length-cipher : (key block : List ℕ) → length (cipher key block) ≡ 16
 unfolding cipher cipherBy addRoundKey
-cipher-long key block = refl
+length-cipher key block = refl
 
-pub invCipher-long : (key block : List ℕ) → length (invCipher key block) ≡ 16
+pub length-invCipher : (key block : List ℕ) → length (invCipher key block) ≡ 16
 unfolding invCipher invCipherBy addRoundKey
-invCipher-long key block = refl
+length-invCipher key block = refl

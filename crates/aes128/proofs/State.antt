@@ -1,6 +1,6 @@
 -- A state by its rows and columns.
 -- Assumes nothing.
-use mathlib.Core.Path.{_≡_, _∙_, subst}
+use mathlib.Core.Path.{_≡_, _∙_}
 use mathlib.Core.List.{List}
 use Prim.Native.Nat.{ℕ, zero, suc, _+_, _*_, _/_, _%_, _<_}
 use native.Mathlib.Nat.{mod-lt}
@@ -27,7 +27,7 @@ at-state f r c hr hc =
 
 -- a block is the state of its own bytes
 pub state-at : (s : List ℕ) → length s ≡ 16 → state (at s) ≡ s
-state-at s h = subst (λ n. tabulate n (λ i. getD s i 0) ≡ s) h (tabulate-getD s 0)
+state-at s h = tabulate-getD 16 s 0 h
 
 -- what holds of 0, 1, 2 and 3 holds of a row
 pub by-row : (P : ℕ → Type 0) → P 0 → P 1 → P 2 → P 3 → (r : ℕ) → r < 4 → P r

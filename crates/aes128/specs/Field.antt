@@ -13,14 +13,14 @@ _⊕_ = bitXor
 abbrev pub bit : ℕ → ℕ → ℕ
 bit b i = b / 2 ^ i % 2
 
--- §4.2, XTIMES: shifted left by one, and xor with {1b} if b7 = 1
-unfoldable pub xTimes : ℕ → ℕ
-xTimes b = b * 2 % 256 ⊕ bit b 7 * 0x1b
-
 -- b added to the sum, if the bit is set
 abbrev pub plusIf : ℕ → ℕ → ℕ → ℕ
 plusIf zero b sum = sum
 plusIf (suc bit) b sum = sum ⊕ b
+
+-- §4.2, XTIMES: shifted left by one, and xor with {1b} if b7 = 1
+unfoldable pub xTimes : ℕ → ℕ
+xTimes b = plusIf (bit b 7) 0x1b (b * 2 % 256)
 
 -- the sum of b, x·b, x²·b, .., one for each of the n lowest bits that is set in c
 unfoldable pub product : ℕ → ℕ → ℕ → ℕ

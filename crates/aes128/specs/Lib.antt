@@ -6,3 +6,4 @@ pub mod Rounds
 pub mod SBox
 pub mod State
 pub mod Steps
+pub mod Tables

@@ -1,6 +1,6 @@
 -- FIPS 197 §5.1.1 and §5.3.2: the two substitutions of a byte.
 -- Assumes nothing.
-use mathlib.Core.Bool.{Bool, cond}
+use mathlib.Core.Bool.{cond}
 use Prim.Native.Nat.{ℕ, zero, suc, _+_, _*_, _%_}
 use lib.Dec.{eqb}
 use Rattle.aes128.specs.Field.{bit, _•_}
@@ -32,11 +32,11 @@ affine b = fromBits (affineBit b) 8 0
 unfoldable pub sBox : ℕ → ℕ
 sBox b = affine (inverse b)
 
--- the last number below n that passes the test
-unfoldable pub theOne : (ℕ → Bool) → ℕ → ℕ
-theOne f zero = 0
-theOne f (suc n) = cond (f n) n (theOne f n)
+-- the number below n that f takes to b; 0 if there is none
+unfoldable pub preimage : (ℕ → ℕ) → ℕ → ℕ → ℕ
+preimage f zero b = 0
+preimage f (suc n) b = cond (eqb (f n) b) n (preimage f n b)
 
 -- §5.3.2, INVSBOX: "the inverse of SBOX": the byte that SBOX takes to b
 unfoldable pub invSBox : ℕ → ℕ
-invSBox b = theOne (λ x. eqb (sBox x) b) 256
+invSBox b = preimage sBox 256 b

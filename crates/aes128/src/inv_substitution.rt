@@ -1,4 +1,4 @@
-// INVSBOX, Table 6 of FIPS 197. proofs/SBox.antt shows that it undoes SBOX.
+// INVSBOX, Table 6 of FIPS 197. specs/Tables.antt states that it undoes SBOX.
 pub const INV_SBOX: [u8; 256] = [
     0x52,
     0x09,

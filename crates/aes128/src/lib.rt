@@ -6,13 +6,23 @@ mod substitution;
 ghost use mathlib.Core.Path.{_≡_};
 ghost use Prim.Native.Nat.{_<_};
 ghost use lib.ListN.{getD};
+ghost use Rattle.laws.specs.Lists.{All};
 ghost use Rattle.aes128.specs.Cipher.{keyExpansion, cipher, invCipher};
 ghost use Rattle.aes128.specs.Field.{xTimes};
 ghost use Rattle.aes128.specs.KeyExpansion.{rotWord, subWord, xorWord};
 ghost use Rattle.aes128.specs.Rounds.{subBytes, shiftRows, mixColumns, addRoundKey};
 ghost use Rattle.aes128.specs.Rounds.{invSubBytes, invShiftRows, invMixColumns};
 ghost use Rattle.aes128.specs.State.{columnOf, columns};
-ghost use Rattle.aes128.specs.Steps.{nextRoundKey, substituted, doubled, sum, turned, turnedSum};
+ghost use Rattle.aes128.specs.Steps.{nextRoundKey, substituted, permuted, doubled, sum, rotated, rotatedSum};
+
+// The place that SHIFTROWS takes each byte of the state from.
+const SHIFTED: [usize; 16] = [0, 5, 10, 15, 4, 9, 14, 3, 8, 13, 2, 7, 12, 1, 6, 11];
+
+// The same of INVSHIFTROWS.
+const SHIFTED_BACK: [usize; 16] = [0, 13, 10, 7, 4, 1, 14, 11, 8, 5, 2, 15, 12, 9, 6, 3];
+
+// The same of a rotation of each column by one row.
+const ROTATED: [usize; 16] = [1, 2, 3, 0, 5, 6, 7, 4, 9, 10, 11, 8, 13, 14, 15, 12];
 
 // CIPHER: nine whole rounds, and a last one that mixes no columns.
 pub fn encrypt(key: [u8; 16], block: [u8; 16]) -> [u8; 16]
@@ -152,32 +162,22 @@ fn inv_sub_bytes(s: [u8; 16]) -> [u8; 16]
 fn shift_rows(s: [u8; 16]) -> [u8; 16]
     ensures { λ r. ⌜ r ≡ shiftRows s ⌝ }
 {
-    join(
-        [s[0], s[5], s[10], s[15]],
-        [s[4], s[9], s[14], s[3]],
-        [s[8], s[13], s[2], s[7]],
-        [s[12], s[1], s[6], s[11]],
-    )
+    permute(&SHIFTED, s)
 }
 
 fn inv_shift_rows(s: [u8; 16]) -> [u8; 16]
     ensures { λ r. ⌜ r ≡ invShiftRows s ⌝ }
 {
-    join(
-        [s[0], s[13], s[10], s[7]],
-        [s[4], s[1], s[14], s[11]],
-        [s[8], s[5], s[2], s[15]],
-        [s[12], s[9], s[6], s[3]],
-    )
+    permute(&SHIFTED_BACK, s)
 }
 
-// The matrix's first row is {02}, {03}, {01}, {01}, and each other row is the one above it, turned by one.
+// The matrix's first row is {02}, {03}, {01}, {01}, and each other row is the one above it, rotated by one.
 fn mix_columns(s: [u8; 16]) -> [u8; 16]
     ensures { λ r. ⌜ r ≡ mixColumns s ⌝ }
 {
     let two = double_all(s);
     let three = xor(two, s);
-    turned_sum(two, three, s, s)
+    rotated_sum(two, three, s, s)
 }
 
 // The matrix's first row is {0e}, {0b}, {0d}, {09}.
@@ -193,26 +193,35 @@ fn inv_mix_columns(s: [u8; 16]) -> [u8; 16]
     let twelve = xor(eight, four);
     let thirteen = xor(twelve, s);
     let fourteen = xor(twelve, two);
-    turned_sum(fourteen, eleven, thirteen, nine)
+    rotated_sum(fourteen, eleven, thirteen, nine)
 }
 
-// w, and x, y and z with their columns turned by one, two and three: the sum that a matrix of turned rows gives.
-fn turned_sum(w: [u8; 16], x: [u8; 16], y: [u8; 16], z: [u8; 16]) -> [u8; 16]
-    ensures { λ r. ⌜ r ≡ turnedSum w x y z ⌝ }
+// w, and x, y and z with their columns rotated by one, two and three rows: the sum that a circulant matrix gives.
+fn rotated_sum(w: [u8; 16], x: [u8; 16], y: [u8; 16], z: [u8; 16]) -> [u8; 16]
+    ensures { λ r. ⌜ r ≡ rotatedSum w x y z ⌝ }
 {
-    xor(w, turn(xor(x, turn(xor(y, turn(z))))))
+    xor(w, rotate(xor(x, rotate(xor(y, rotate(z))))))
 }
 
-// Each column turned by one: row r + 1 comes to row r.
-fn turn(s: [u8; 16]) -> [u8; 16]
-    ensures { λ r. ⌜ r ≡ turned s ⌝ }
+// Each column rotated by one row: row r + 1 comes to row r.
+fn rotate(s: [u8; 16]) -> [u8; 16]
+    ensures { λ r. ⌜ r ≡ rotated s ⌝ }
 {
-    join(
-        [s[1], s[2], s[3], s[0]],
-        [s[5], s[6], s[7], s[4]],
-        [s[9], s[10], s[11], s[8]],
-        [s[13], s[14], s[15], s[12]],
-    )
+    permute(&ROTATED, s)
+}
+
+// The bytes of s in another order: the one at i comes from place `from[i]`.
+fn permute(from: &[usize; 16], s: [u8; 16]) -> [u8; 16]
+    requires { ⌜ All (λ i. i < 16) (now from) ⌝ }
+    ensures { λ r. ⌜ r ≡ permuted (now (from .entry)) s ⌝ }
+{
+    let mut r = [0; 16];
+    let mut i = 0;
+    while i < 16 {
+        r[i] = s[from[i]];
+        i += 1;
+    }
+    r
 }
 
 // Each byte of s through the table t; both directions share it.

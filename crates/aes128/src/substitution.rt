@@ -1,4 +1,4 @@
-// SBOX, Table 4 of FIPS 197. proofs/SBox.antt shows that every entry follows from the rule of §5.1.1.
+// SBOX, Table 4 of FIPS 197. specs/Tables.antt states that every entry follows from the rule of §5.1.1.
 pub const SBOX: [u8; 256] = [
     0x63,
     0x7c,

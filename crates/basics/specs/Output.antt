@@ -5,20 +5,14 @@ use Prim.Native.Nat.{ℕ}
 use lib.Dec.{leb}
 use lib.ListN.{length, drop}
 use Rattle.laws.specs.Choice.{if_then_else_}
-use Rattle.basics.specs.declared.Output.{Output}
-use Rattle.basics.specs.declared.Output.the-variants.{Written, TooShort}
+use Rattle.basics.specs.declared.Answer.the-variants.{Taken, OutputTooShort}
 use Rattle.basics.specs.declared.Report.{Report}
 
--- document 01's numbers: 0 "taken", 13 "lent output too short"
-abbrev pub outputNumber : Output → ℕ
-outputNumber Written = 0
-outputNumber TooShort = 13
-
 abbrev pub tooShort : Report
-tooShort = record { output = TooShort; length = 0 }
+tooShort = record { answer = OutputTooShort; length = 0 }
 
 abbrev pub written : ℕ → Report
-written n = record { output = Written; length = n }
+written n = record { answer = Taken; length = n }
 
 -- "Answer 13 if the output is shorter than the whole structure"; the length is handed out with 0
 abbrev pub reportOf : List ℕ → List ℕ → Report

@@ -1,8 +1,9 @@
-// What every layer of the provider speaks of: link numbers and moments, addresses, blocks of sixteen bytes, lent outputs.
+// What every layer of the provider speaks of: answers, link numbers and moments, addresses, blocks of sixteen bytes, lent outputs.
 ghost use mathlib.Core.Path.{_≡_};
 ghost use Prim.Native.Nat.{_+_, _-_, _≤_};
 ghost use lib.ListN.{length};
 ghost use lib.Seq.{paste};
+ghost use Rattle.basics.specs.Answers.{answerNumber, isTaken};
 ghost use Rattle.basics.specs.Bytes as spec;
 ghost use Rattle.basics.specs.Output as output;
 
@@ -19,15 +20,60 @@ pub struct Address {
     pub bytes: [u8; 6],
 }
 
-// What became of a text that goes to a lent output.
-pub enum Output {
-    Written,
-    TooShort,
+// Document 01's answers, one for each row of its table; `answerNumber` of specs/Answers gives the number.
+pub enum Answer {
+    Taken,
+    UnknownLink,
+    WrongLength,
+    PasskeyTooLarge,
+    ClockWentBack,
+    LockedOut,
+    NotInPairingMode,
+    NoKeyFits,
+    SaltSpent,
+    LinkIdle,
+    WrongStage,
+    CapabilityRefused,
+    BadBlock,
+    OutputTooShort,
+    ListMalformed,
 }
 
-// That, and how many bytes were written.
+impl Answer {
+    // Document 01's number of an answer.
+    pub fn number(self) -> u8
+        ensures { λ r. ⌜ r ≡ answerNumber self ⌝ }
+    {
+        match self {
+            Answer::Taken => 0,
+            Answer::UnknownLink => 1,
+            Answer::WrongLength => 2,
+            Answer::PasskeyTooLarge => 3,
+            Answer::ClockWentBack => 4,
+            Answer::LockedOut => 5,
+            Answer::NotInPairingMode => 6,
+            Answer::NoKeyFits => 7,
+            Answer::SaltSpent => 8,
+            Answer::LinkIdle => 9,
+            Answer::WrongStage => 10,
+            Answer::CapabilityRefused => 11,
+            Answer::BadBlock => 12,
+            Answer::OutputTooShort => 13,
+            Answer::ListMalformed => 14,
+        }
+    }
+
+    // Answer 0; every other one is a refusal.
+    pub fn is_taken(self) -> bool
+        ensures { λ r. ⌜ r ≡ isTaken self ⌝ }
+    {
+        self.number() == 0
+    }
+}
+
+// What became of a text that goes to a lent output, 0 or 13, and how many bytes were written.
 pub struct Report {
-    pub output: Output,
+    pub answer: Answer,
     pub length: usize,
 }
 
@@ -36,7 +82,7 @@ pub fn too_short() -> Report
     ensures { λ r. ⌜ r ≡ output.tooShort ⌝ }
 {
     Report {
-        output: Output::TooShort,
+        answer: Answer::OutputTooShort,
         length: 0,
     }
 }
@@ -46,7 +92,7 @@ pub fn written(length: usize) -> Report
     ensures { λ r. ⌜ r ≡ output.written length ⌝ }
 {
     Report {
-        output: Output::Written,
+        answer: Answer::Taken,
         length: length,
     }
 }

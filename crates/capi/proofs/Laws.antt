@@ -9,15 +9,14 @@ use Rattle.basics.specs.Output.{reportOf, placed}
 use Rattle.basics.specs.declared.Report.{Report}
 use Rattle.capi.proofs.ReadsBack.{any-bytes}
 use Rattle.capi.specs.Calls.{returned, noReport, served, lentBack, told, writtenTo}
-use Rattle.capi.specs.Plain.{isDevice, deviceOf, plainOutcome, plainReport}
+use Rattle.capi.specs.Packed.{isDevice, deviceOf, packedOutcome, packedReport}
 use Rattle.capi.specs.declared.FpDevice.{FpDevice}
 use Rattle.capi.specs.declared.FpOutcome.{FpOutcome}
 use Rattle.capi.specs.declared.FpReport.{FpReport}
 use Rattle.capi.specs.declared.Unpacked.{Unpacked}
-use Rattle.provider.proofs.Validity.{stays-valid}
-use Rattle.provider.specs.Demands.{Valid}
-use Rattle.provider.specs.Device.{Effect}
-use Rattle.provider.specs.Event.{Event, step}
+use Rattle.provider.proofs.Theorems.Validity.{stays-valid}
+use Rattle.provider.specs.Demands.Validity.{Valid}
+use Rattle.provider.specs.Rules.Event.{Event, lent, step}
 use Rattle.provider.specs.declared.Device.{Device}
 use Rattle.provider.specs.declared.Outcome.{Outcome}
 
@@ -34,30 +33,30 @@ module _ (f : FpDevice) {u : Unpacked} (e : u ≡ record { known = isDevice f; d
   device-is : u .device ≡ deviceOf f
   device-is = ap (λ (x : Unpacked). x .device) e
 
-  module _ (rule : Device → Effect) where
-    pub serves : {o : Outcome} {r : FpOutcome} → u .known ≡ true → o ≡ rule (u .device) .gives → r ≡ plainOutcome o
-        → r ≡ served f rule
+  module _ (event : Event) where
+    pub served-known : {o : Outcome} {r : FpOutcome} → u .known ≡ true → o ≡ step (u .device) event .gives
+        → r ≡ packedOutcome o
+        → r ≡ served f event
     unfolding served
-    serves k h p = rw (known-is k) (p ∙ ap plainOutcome (h ∙ ap (λ d. rule d .gives) device-is))
+    served-known k h p = rw (known-is k) (p ∙ ap packedOutcome (h ∙ ap (λ d. step d event .gives) device-is))
 
-    pub leaves : (out : List ℕ) {after : List ℕ} → u .known ≡ true → after ≡ rule (u .device) .leaves
-        → after ≡ lentBack f rule out
+    pub lent-known : {after : List ℕ} → u .known ≡ true → after ≡ step (u .device) event .leaves → after ≡ lentBack f event
     unfolding lentBack
-    leaves out k h = rw (known-is k) (h ∙ ap (λ d. rule d .leaves) device-is)
+    lent-known k h = rw (known-is k) (h ∙ ap (λ d. step d event .leaves) device-is)
 
-    pub comes-back : {r : FpOutcome} → u .known ≡ false → r ≡ returned f → r ≡ served f rule
+    pub served-unknown : {r : FpOutcome} → u .known ≡ false → r ≡ returned f → r ≡ served f event
     unfolding served
-    comes-back k h = rw (known-is k) h
+    served-unknown k h = rw (known-is k) h
 
-    pub stays : (out : List ℕ) → u .known ≡ false → out ≡ lentBack f rule out
+    pub lent-unknown : u .known ≡ false → lent event ≡ lentBack f event
     unfolding lentBack
-    stays out k = rw (known-is k) refl
+    lent-unknown k = rw (known-is k) refl
 
   module _ (text : Device → List ℕ) (out : List ℕ) where
-    pub tells : {o : Report} {r : FpReport} → u .known ≡ true → o ≡ reportOf (text (u .device)) out → r ≡ plainReport o
+    pub tells : {o : Report} {r : FpReport} → u .known ≡ true → o ≡ reportOf (text (u .device)) out → r ≡ packedReport o
         → r ≡ told f text out
     unfolding told
-    tells k h p = rw (known-is k) (p ∙ ap plainReport (h ∙ ap (λ d. reportOf (text d) out) device-is))
+    tells k h p = rw (known-is k) (p ∙ ap packedReport (h ∙ ap (λ d. reportOf (text d) out) device-is))
 
     pub writes : {after : List ℕ} → u .known ≡ true → after ≡ placed (text (u .device)) out → after ≡ writtenTo f text out
     unfolding writtenTo

@@ -1,4 +1,4 @@
--- Links in plain numbers read back, and any numbers are read as links.
+-- Links in packed numbers read back, and any numbers are read as links.
 -- Assumes nothing.
 use mathlib.Core.Bool.{true, false}
 use mathlib.Core.List.{List, [], _∷_}
@@ -11,17 +11,17 @@ use lib.ListN.{length, drop, getD}
 use borrow.Author.Tests.{le-leb, lt-leb, eq-eqb, ne-eqb}
 use Rattle.laws.proofs.All.{all-get}
 use Rattle.laws.proofs.Choice.{if-holds}
-use Rattle.laws.proofs.Filled.{getD-tabulate, tabulate-ext, listed}
+use Rattle.laws.proofs.Filled.{getD-tabulate, tabulate-ext, tabulate-getD}
 use Rattle.laws.proofs.Lists.{drop-more}
 use Rattle.laws.specs.Choice.{_and_}
 use Rattle.laws.specs.Lists.{All}
 use Rattle.laws.specs.Tabulate.{tabulate}
 use Rattle.basics.specs.declared.Moment.{Moment}
-use Rattle.capi.specs.Plain.{noSession, plainSession, heldIn, sessionOf, plainLinks, linksOf, stagesKnown}
+use Rattle.capi.specs.Packed.{noSession, packedSession, heldIn, sessionOf, packedLinks, linksOf, stagesKnown}
 use Rattle.capi.specs.declared.FpSession.{FpSession}
-use Rattle.provider.proofs.ValidParts.{in-a-stage, idle-holds-nothing}
-use Rattle.provider.specs.Demands.{Canonical}
-use Rattle.sessions.specs.Sessions.{linkCount, idle, sessionAt, stageNumber, nowhere}
+use Rattle.pairing.proofs.Acts.{in-a-stage}
+use Rattle.provider.proofs.Theorems.ValidParts.{idle-holds-nothing}
+use Rattle.sessions.specs.Sessions.{Canonical, linkCount, idle, sessionAt, stageNumber, absentSession}
 use Rattle.sessions.specs.declared.Session.{Session}
 use Rattle.sessions.specs.declared.Sessions.{Sessions}
 use Rattle.sessions.specs.declared.Stage.{Stage}
@@ -30,7 +30,7 @@ use Rattle.sessions.specs.declared.Stage.the-variants.{Idle, Asked, Pairing, Co
 -- a stage comes back by its number
 back : (stage : Stage) (key : List ℕ) (since : Moment) (passkey : ℕ)
     → Canonical (record { stage = stage; key = key; since = since; passkey = passkey })
-    → sessionOf (plainSession (record { stage = stage; key = key; since = since; passkey = passkey }))
+    → sessionOf (packedSession (record { stage = stage; key = key; since = since; passkey = passkey }))
     ≡ record { stage = stage; key = key; since = since; passkey = passkey }
 back Idle key since passkey c = sym (c refl)
 back Asked key since passkey c = refl
@@ -39,7 +39,7 @@ back Confirming key since passkey c = refl
 back Proved key since passkey c = refl
 back Paired key since passkey c = refl
 
-session-back : (s : Session) → Canonical s → sessionOf (plainSession s) ≡ s
+session-back : (s : Session) → Canonical s → sessionOf (packedSession s) ≡ s
 session-back s = back (s .stage) (s .key) (s .since) (s .passkey)
 
 -- each number in its turn
@@ -81,16 +81,16 @@ module _ (f : FpSession) where
                 ne-eqb (f .stage) 5 five,
               )
 
-pub links-back : (ss : Sessions) → length (ss .links) ≡ linkCount → All Canonical (ss .links) → linksOf (plainLinks ss) ≡ ss
+pub links-back : (ss : Sessions) → length (ss .links) ≡ linkCount → All Canonical (ss .links) → linksOf (packedLinks ss) ≡ ss
 links-back ss e p = λ i. record { links = go i }
   where
-    one : (l : ℕ) → l < linkCount → sessionOf (getD (plainLinks ss) l noSession) ≡ sessionAt ss l
+    one : (l : ℕ) → l < linkCount → sessionOf (getD (packedLinks ss) l noSession) ≡ sessionAt ss l
     one l h =
-        ap sessionOf (getD-tabulate linkCount (λ l. plainSession (sessionAt ss l)) l noSession h)
-        ∙ session-back (sessionAt ss l) (all-get Canonical (ss .links) p l nowhere (omega (arith, e)))
+        ap sessionOf (getD-tabulate linkCount (λ l. packedSession (sessionAt ss l)) l noSession h)
+        ∙ session-back (sessionAt ss l) (all-get Canonical (ss .links) p l absentSession (omega (arith, e)))
 
-    go : linksOf (plainLinks ss) .links ≡ ss .links
-    go = tabulate-ext linkCount _ _ one ∙ listed linkCount (ss .links) nowhere e
+    go : linksOf (packedLinks ss) .links ≡ ss .links
+    go = tabulate-ext linkCount _ _ one ∙ tabulate-getD linkCount (ss .links) absentSession e
 
 stage-small : (stage : Stage) → leb (stageNumber stage) 5 ≡ true
 stage-small Idle = refl
@@ -104,9 +104,9 @@ stages-known : (n : ℕ) (f : ℕ → FpSession) → ((l : ℕ) → leb (f l .st
 stages-known zero f p = refl
 stages-known (suc n) f p = rw (p zero) (stages-known n (λ l. f (suc l)) (λ l. p (suc l)))
 
-pub known-back : (ss : Sessions) → stagesKnown (plainLinks ss) ≡ true
+pub known-back : (ss : Sessions) → stagesKnown (packedLinks ss) ≡ true
 known-back ss =
-    stages-known linkCount (λ l. plainSession (sessionAt ss l)) (λ l. stage-small (sessionAt ss l .stage))
+    stages-known linkCount (λ l. packedSession (sessionAt ss l)) (λ l. stage-small (sessionAt ss l .stage))
 
 -- a loop over the links: the first of those left decides, or the others do
 module _ (fs : List FpSession) (i : ℕ) (h : i < length fs) where

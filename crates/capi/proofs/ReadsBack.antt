@@ -1,4 +1,4 @@
--- A device in plain numbers reads back, and any bytes are read as a valid device.
+-- A device in packed numbers reads back, and any bytes are read as a valid device.
 -- Assumes nothing.
 use mathlib.Core.Bool.{Bool, true, false}
 use mathlib.Core.List.{[], _∷_}
@@ -13,19 +13,19 @@ use Rattle.capi.proofs.Links.{links-back, known-back, session-canonical
 use Rattle.capi.proofs.StoredKeys.{list-back, list-valid}
 use Rattle.capi.specs.Calls.{served, lentBack}
 use Rattle.capi.specs.Demands.{ReadsBack, AnyBytes, CallIsStep, afterCalls, CallsAreSteps}
-use Rattle.capi.specs.Plain.{noSession, sessionOf, stagesKnown, plainKeys, listOf, isWellFormed, flag, plain, guardOf, numbersKnown, isDevice, withKeysOf, deviceOf}
+use Rattle.capi.specs.Packed.{noSession, sessionOf, stagesKnown, packedKeys, listOf, isWellFormed, flag, packed, guardOf, numbersKnown, isDevice, withKeysOf, deviceOf}
 use Rattle.capi.specs.declared.FpDevice.{FpDevice}
 use Rattle.capi.specs.declared.Unpacked.{Unpacked}
 use Rattle.capi.specs.declared.FpOutcome.{FpOutcome}
-use Rattle.provider.proofs.Validity.{stays-valid}
-use Rattle.provider.specs.Event.{next, after}
-use Rattle.provider.proofs.ValidParts.{off-valid}
-use Rattle.provider.specs.Control.{off}
-use Rattle.provider.specs.Demands.{Canonical, Valid}
+use Rattle.provider.proofs.Theorems.Validity.{stays-valid}
+use Rattle.provider.specs.Rules.Event.{next, after}
+use Rattle.provider.proofs.Theorems.ValidParts.{off-valid}
+use Rattle.provider.specs.Rules.Control.{off}
+use Rattle.provider.specs.Demands.Validity.{Valid}
 use Rattle.provider.specs.declared.Device.{Device}
 use Rattle.request_guard.proofs.Laws.{cleaned-valid, valid-bounded, valid-cleaned}
 use Rattle.request_guard.specs.Guard.{bounded}
-use Rattle.sessions.specs.Sessions.{linkCount}
+use Rattle.sessions.specs.Sessions.{Canonical, linkCount}
 use Rattle.account_keys.specs.Keys as keys
 
 -- ---- devices
@@ -38,9 +38,9 @@ flag-back : (on : Bool) → eqb (flag on) 1 ≡ on
 flag-back true = refl
 flag-back false = refl
 
-plain-known : (d : Device) → Valid d → isDevice (plain d) ≡ true
-unfolding isDevice plain
-plain-known d v =
+packed-known : (d : Device) → Valid d → isDevice (packed d) ≡ true
+unfolding isDevice packed
+packed-known d v =
     rw (
       ap (λ (r : Reading). r .form) (list-back (d .keys) (v .keys)),
       valid-bounded (d .guard) (v .guard),
@@ -48,11 +48,11 @@ plain-known d v =
       flag-known (d .beacon .pairing),
     )
 
-pub plain-reads-back : ReadsBack
-unfolding deviceOf plain
-plain-reads-back d v = (plain-known d v, rw (plain-known d v) same)
+pub packed-reads-back : ReadsBack
+unfolding deviceOf packed
+packed-reads-back d v = (packed-known d v, rw (packed-known d v) same)
   where
-    same : withKeysOf (plain d) (listOf (plainKeys (d .keys)) .keys) ≡ d
+    same : withKeysOf (packed d) (listOf (packedKeys (d .keys)) .keys) ≡ d
     same =
         λ i. record {
           clock = d .clock;
@@ -101,14 +101,14 @@ module _ (f : FpDevice) where
     well-formed : isWellFormed (listOf (f .stored) .form) ≡ formed
     well-formed = ap (λ (x : Reading). isWellFormed (x .form)) (sym e) ∙ sym w
 
-    pub list-strange : formed ≡ false → isDevice f ≡ false
+    pub list-unknown : formed ≡ false → isDevice f ≡ false
     unfolding isDevice
-    list-strange h = rw (well-formed ∙ h)
+    list-unknown h = rw (well-formed ∙ h)
 
     module _ (h : formed ≡ true) {known : Bool} (n : known ≡ numbersKnown f) where
-      pub numbers-strange : known ≡ false → isDevice f ≡ false
+      pub numbers-unknown : known ≡ false → isDevice f ≡ false
       unfolding isDevice
-      numbers-strange k = rw (well-formed ∙ h) (sym n ∙ k)
+      numbers-unknown k = rw (well-formed ∙ h) (sym n ∙ k)
 
       pub is-device : known ≡ true → isDevice f ≡ true
       unfolding isDevice
@@ -117,7 +117,7 @@ module _ (f : FpDevice) where
 pub call-is-step : CallIsStep
 unfolding served lentBack
 call-is-step d e v =
-    let back = plain-reads-back d v in (rw (back .0, back .1), rw (back .0, back .1))
+    let back = packed-reads-back d v in (rw (back .0, back .1), rw (back .0, back .1))
 
 pub calls-are-steps : CallsAreSteps
 unfolding afterCalls after

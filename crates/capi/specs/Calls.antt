@@ -1,16 +1,16 @@
--- What a call from C gives back: the rule of provider on the device handed in, or a refusal where that is none.
+-- What a call from C gives back: the step of provider's rules on the device handed in, or a refusal where that is none.
 -- Assumes nothing.
 use mathlib.Core.List.{List}
 use Prim.Native.Nat.{ℕ}
 use lib.ListN.{replicate}
 use Rattle.laws.specs.Choice.{if_then_else_}
 use Rattle.basics.specs.Output.{reportOf, placed}
-use Rattle.capi.specs.Plain.{isDevice, deviceOf, plainOutcome, plainReport}
+use Rattle.capi.specs.Packed.{isDevice, deviceOf, packedOutcome, packedReport}
 use Rattle.capi.specs.declared.FpDevice.{FpDevice}
 use Rattle.capi.specs.declared.FpOutcome.{FpOutcome}
 use Rattle.capi.specs.declared.FpReport.{FpReport}
 use Rattle.key_based.specs.Request.{noBond}
-use Rattle.provider.specs.Device.{Effect}
+use Rattle.provider.specs.Rules.Event.{Event, lent, step}
 use Rattle.provider.specs.declared.Device.{Device}
 
 -- the answer to bytes that are not served, none of document 01's numbers
@@ -27,19 +27,19 @@ returned f =
     }
 
 -- an event: the next device and the answer
-unfoldable pub served : FpDevice → (Device → Effect) → FpOutcome
-served f rule = if isDevice f then plainOutcome (rule (deviceOf f) .gives) else returned f
+unfoldable pub served : FpDevice → Event → FpOutcome
+served f e = if isDevice f then packedOutcome (step (deviceOf f) e .gives) else returned f
 
 -- and the lent output afterwards
-unfoldable pub lentBack : FpDevice → (Device → Effect) → List ℕ → List ℕ
-lentBack f rule out = if isDevice f then rule (deviceOf f) .leaves else out
+unfoldable pub lentBack : FpDevice → Event → List ℕ
+lentBack f e = if isDevice f then step (deviceOf f) e .leaves else lent e
 
 abbrev pub noReport : FpReport
 noReport = record { length = 0; answer = notADevice; reserved = replicate 7 0 }
 
 -- a question: a text for the lent output
 unfoldable pub told : FpDevice → (Device → List ℕ) → List ℕ → FpReport
-told f text out = if isDevice f then plainReport (reportOf (text (deviceOf f)) out) else noReport
+told f text out = if isDevice f then packedReport (reportOf (text (deviceOf f)) out) else noReport
 
 unfoldable pub writtenTo : FpDevice → (Device → List ℕ) → List ℕ → List ℕ
 writtenTo f text out = if isDevice f then placed (text (deviceOf f)) out else out

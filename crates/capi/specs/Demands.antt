@@ -3,33 +3,54 @@
 use mathlib.Core.Bool.{true}
 use mathlib.Core.List.{List, [], _∷_}
 use mathlib.Core.Path.{_≡_}
+use Prim.Native.Nat.{ℕ}
+use lib.ListN.{take}
 use Rattle.capi.specs.Calls.{served, lentBack}
-use Rattle.capi.specs.Plain.{plain, isDevice, deviceOf, plainOutcome}
+use Rattle.capi.specs.Packed.{packed, isDevice, deviceOf, packedOutcome}
 use Rattle.capi.specs.declared.FpDevice.{FpDevice}
-use Rattle.provider.specs.Demands.{Valid}
-use Rattle.provider.specs.Event.{Event, lent, step, after}
+use Rattle.capi.specs.declared.FpReply.{FpReply}
+use Rattle.provider.specs.Demands.Gap.{Observed, OnlyTakesAway}
+use Rattle.provider.specs.Demands.Validity.{Valid}
+use Rattle.provider.specs.Rules.Event.{Event, PowerOn, step, after}
 use Rattle.provider.specs.declared.Device.{Device}
+use Rattle.provider.specs.declared.Start.{Start}
 
 -- a device that was handed out is known when it is handed in, and is read as the same device
 abbrev pub ReadsBack : Type 0
-ReadsBack = (d : Device) → Valid d → (isDevice (plain d) ≡ true) × (deviceOf (plain d) ≡ d)
+ReadsBack = (d : Device) → Valid d → (isDevice (packed d) ≡ true) × (deviceOf (packed d) ≡ d)
 
 -- any bytes are read as a valid device, those that are not served as the value before any, so that no call needs a check first
 abbrev pub AnyBytes : Type 0
 AnyBytes = (f : FpDevice) → Valid (deviceOf f)
 
--- a call from C is one step of document 01's rules, so that what is proved of `step` holds of calls one after another
+-- a call from C is one step of document 01's rules
 abbrev pub CallIsStep : Type 0
 CallIsStep =
     (d : Device) (e : Event) → Valid d
-    → (served (plain d) (λ x. step x e) ≡ plainOutcome (step d e .gives))
-    × (lentBack (plain d) (λ x. step x e) (lent e) ≡ step d e .leaves)
+    → (served (packed d) e ≡ packedOutcome (step d e .gives)) × (lentBack (packed d) e ≡ step d e .leaves)
 
 -- the device in C's hands after events one after another, each on what the last call gave back
 unfoldable pub afterCalls : FpDevice → List Event → FpDevice
 afterCalls f [] = f
-afterCalls f (e ∷ es) = afterCalls (served f (λ x. step x e) .next) es
+afterCalls f (e ∷ es) = afterCalls (served f e .next) es
 
 -- it is the one of document 01's rules, whatever the events
 abbrev pub CallsAreSteps : Type 0
-CallsAreSteps = (d : Device) (es : List Event) → Valid d → afterCalls (plain d) es ≡ plain (after d es)
+CallsAreSteps = (d : Device) (es : List Event) → Valid d → afterCalls (packed d) es ≡ packed (after d es)
+
+-- what firmware sees of calls: `next.stored` is the list written out
+abbrev pub calls : Observed FpDevice FpReply
+calls =
+    record {
+      next = λ f e. served f e .next;
+      number = λ f e. served f e .reply .answer;
+      reply = λ f e. served f e .reply;
+      leaves = lentBack;
+      written = λ f. take (f .stored .length) (f .stored .bytes);
+    }
+
+-- demand 3 of calls, from any bytes on: both runs start from the device that the same taken power-on gave
+abbrev pub CallsOnlyTakeAway : Type 0
+CallsOnlyTakeAway =
+    (f : FpDevice) (stored : List ℕ) (start : Start) → served f (PowerOn stored start) .reply .answer ≡ 0
+    → OnlyTakesAway calls (served f (PowerOn stored start) .next)

@@ -6,9 +6,9 @@ use crate::unpack;
 use advertising::Prompt;
 ghost use mathlib.Core.Path.{_≡_};
 ghost use Rattle.capi.specs.Calls.{told, writtenTo};
-ghost use Rattle.capi.specs.Plain.{promptOf};
-ghost use Rattle.provider.specs.Control.{advertised};
-ghost use Rattle.provider.specs.Demands.{written};
+ghost use Rattle.capi.specs.Packed.{promptOf};
+ghost use Rattle.provider.specs.Rules.Control.{advertised};
+ghost use Rattle.provider.specs.Demands.Validity.{written};
 
 // `hide` is 0 to show the prompt, and any other number to hide it.
 #[no_mangle]

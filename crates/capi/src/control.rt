@@ -12,20 +12,21 @@ ghost use mathlib.Core.Path.{_≡_};
 ghost use lib.Dec.{eqb};
 ghost use mathlib.Core.Bool.{not};
 ghost use Rattle.capi.specs.Calls.{served};
-ghost use Rattle.capi.specs.Plain.{plain};
-ghost use Rattle.provider.specs.Control as rule;
+ghost use Rattle.capi.specs.Packed.{packed};
+ghost use Rattle.provider.specs.Rules.Control.{off};
+ghost use Rattle.provider.specs.Rules.Event.{Overflow, PowerOn, OnDevice, OnLink, PairingMode, AddressRotated, FactoryReset, LinkUp, LinkDown};
 
 // The value before any device was made.
 #[no_mangle]
 pub extern "C" fn fp_off() -> FpDevice
-    ensures { λ r. ⌜ r ≡ plain rule.off ⌝ }
+    ensures { λ r. ⌜ r ≡ packed off ⌝ }
 {
     pack::pack(Device::off())
 }
 
 #[no_mangle]
 pub extern "C" fn fp_power_on(device: FpDevice, stored: &[u8], start: Start) -> FpOutcome
-    ensures { λ r. ⌜ r ≡ served device (λ d. rule.powerOn d (now (stored .entry)) start) ⌝ }
+    ensures { λ r. ⌜ r ≡ served device (PowerOn (now (stored .entry)) start) ⌝ }
 {
     let from = unpack::unpack(device);
     if !from.known {
@@ -37,7 +38,7 @@ pub extern "C" fn fp_power_on(device: FpDevice, stored: &[u8], start: Start) -> 
 
 #[no_mangle]
 pub extern "C" fn fp_overflow(device: FpDevice) -> FpOutcome
-    ensures { λ r. ⌜ r ≡ served device (λ d. rule.overflow d) ⌝ }
+    ensures { λ r. ⌜ r ≡ served device Overflow ⌝ }
 {
     let from = unpack::unpack(device);
     if !from.known {
@@ -49,7 +50,7 @@ pub extern "C" fn fp_overflow(device: FpDevice) -> FpOutcome
 
 #[no_mangle]
 pub extern "C" fn fp_link_up(device: FpDevice, link: u8, clock: u64) -> FpOutcome
-    ensures { λ r. ⌜ r ≡ served device (λ d. rule.linkChanged d link clock) ⌝ }
+    ensures { λ r. ⌜ r ≡ served device (OnLink link clock LinkUp) ⌝ }
 {
     let from = unpack::unpack(device);
     if !from.known {
@@ -61,7 +62,7 @@ pub extern "C" fn fp_link_up(device: FpDevice, link: u8, clock: u64) -> FpOutcom
 
 #[no_mangle]
 pub extern "C" fn fp_link_down(device: FpDevice, link: u8, clock: u64) -> FpOutcome
-    ensures { λ r. ⌜ r ≡ served device (λ d. rule.linkChanged d link clock) ⌝ }
+    ensures { λ r. ⌜ r ≡ served device (OnLink link clock LinkDown) ⌝ }
 {
     let from = unpack::unpack(device);
     if !from.known {
@@ -74,7 +75,7 @@ pub extern "C" fn fp_link_down(device: FpDevice, link: u8, clock: u64) -> FpOutc
 // `on` is 0 for off, and any other number for on.
 #[no_mangle]
 pub extern "C" fn fp_pairing_mode(device: FpDevice, on: u8, clock: u64) -> FpOutcome
-    ensures { λ r. ⌜ r ≡ served device (λ d. rule.pairingMode d (not (eqb on 0)) clock) ⌝ }
+    ensures { λ r. ⌜ r ≡ served device (OnDevice clock (PairingMode (not (eqb on 0)))) ⌝ }
 {
     let from = unpack::unpack(device);
     if !from.known {
@@ -91,7 +92,7 @@ pub extern "C" fn fp_address_rotated(
     salt: &[u8; 2],
     clock: u64,
 ) -> FpOutcome
-    ensures { λ r. ⌜ r ≡ served device (λ d. rule.addressRotated d ble (now (salt .entry)) clock) ⌝ }
+    ensures { λ r. ⌜ r ≡ served device (OnDevice clock (AddressRotated ble (now (salt .entry)))) ⌝ }
 {
     let from = unpack::unpack(device);
     if !from.known {
@@ -103,7 +104,7 @@ pub extern "C" fn fp_address_rotated(
 
 #[no_mangle]
 pub extern "C" fn fp_factory_reset(device: FpDevice, clock: u64) -> FpOutcome
-    ensures { λ r. ⌜ r ≡ served device (λ d. rule.factoryReset d clock) ⌝ }
+    ensures { λ r. ⌜ r ≡ served device (OnDevice clock FactoryReset) ⌝ }
 {
     let from = unpack::unpack(device);
     if !from.known {

@@ -4,11 +4,13 @@
 mod asking;
 mod control;
 mod pack;
-mod pairing;
+mod pairing_events;
 mod requests;
 mod unpack;
 
+use account_keys::STORED_LIST_MAX;
 use basics::Address;
+use basics::Moment;
 use key_based::Bond;
 use provider::Device;
 use provider::Identity;
@@ -17,7 +19,7 @@ use request_guard::SpentSalts;
 // One link: the number of its stage, 0 for idle, and what it holds.
 #[repr(C)]
 pub struct FpSession {
-    pub since: u64,
+    pub since: Moment,
     pub passkey: u32,
     pub stage: u8,
     pub key: [u8; 16],
@@ -28,17 +30,17 @@ pub struct FpSession {
 #[repr(C)]
 pub struct FpStored {
     pub length: usize,
-    pub bytes: [u8; 84],
+    pub bytes: [u8; STORED_LIST_MAX],
     pub reserved: [u8; 4],
 }
 
 // A device in plain numbers, without a gap between them: what C does not name is reserved and zero.
 #[repr(C)]
 pub struct FpDevice {
-    pub clock: u64,
+    pub clock: Moment,
     pub sessions: [FpSession; 8],
     pub spent: SpentSalts,
-    pub failed: u64,
+    pub failed: Moment,
     pub stored: FpStored,
     pub identity: Identity,
     pub ble: Address,

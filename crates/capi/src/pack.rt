@@ -6,13 +6,10 @@ use crate::FpReport;
 use crate::FpSession;
 use crate::FpStored;
 use account_keys::AccountKeys;
-use basics::Address;
+use account_keys::STORED_LIST_MAX;
 use basics::Link;
-use basics::Output;
 use basics::Report;
-use key_based::Bond;
-use provider::Answer;
-use provider::Confirm;
+use pairing::Confirm;
 use provider::Device;
 use provider::Outcome;
 use provider::Reply;
@@ -21,16 +18,15 @@ use sessions::Sessions;
 ghost use mathlib.Core.Path.{_≡_};
 ghost use Rattle.account_keys.specs.Keys as account;
 ghost use Rattle.capi.specs.Calls as calls;
-ghost use Rattle.capi.specs.Plain as spec;
-ghost use Rattle.provider.specs.Answers.{answerNumber};
-ghost use Rattle.provider.specs.Demands.{Valid};
+ghost use Rattle.capi.specs.Packed as spec;
+ghost use Rattle.provider.specs.Demands.Validity.{Valid};
 
 // The answer to bytes that are not served, none of document 01's numbers.
 const NOT_A_DEVICE: u8 = 255;
 
 pub fn pack(device: Device) -> FpDevice
     requires { ⌜ Valid device ⌝ }
-    ensures { λ r. ⌜ r ≡ spec.plain device ⌝ }
+    ensures { λ r. ⌜ r ≡ spec.packed device ⌝ }
 {
     let clock = device.clock;
     let keys = device.keys;
@@ -41,10 +37,10 @@ pub fn pack(device: Device) -> FpDevice
     let ble = device.beacon.ble;
     let salt = device.beacon.salt;
     FpDevice {
-        clock: clock.0,
+        clock: clock,
         sessions: pack_links(sessions),
         spent: spent,
-        failed: failed.0,
+        failed: failed,
         stored: pack_keys(keys),
         identity: identity,
         ble: ble,
@@ -57,7 +53,7 @@ pub fn pack(device: Device) -> FpDevice
 
 pub fn pack_outcome(outcome: Outcome) -> FpOutcome
     requires { ⌜ Valid (outcome .next) ⌝ }
-    ensures { λ r. ⌜ r ≡ spec.plainOutcome outcome ⌝ }
+    ensures { λ r. ⌜ r ≡ spec.packedOutcome outcome ⌝ }
 {
     let next = outcome.next;
     let reply = outcome.reply;
@@ -69,20 +65,13 @@ pub fn pack_outcome(outcome: Outcome) -> FpOutcome
 }
 
 pub fn pack_report(report: Report) -> FpReport
-    ensures { λ r. ⌜ r ≡ spec.plainReport report ⌝ }
+    ensures { λ r. ⌜ r ≡ spec.packedReport report ⌝ }
 {
-    let output = report.output;
-    match output {
-        Output::Written => FpReport {
-            length: report.length,
-            answer: 0,
-            reserved: [0u8; 7],
-        },
-        Output::TooShort => FpReport {
-            length: report.length,
-            answer: 13,
-            reserved: [0u8; 7],
-        },
+    let answer = report.answer;
+    FpReport {
+        length: report.length,
+        answer: answer.number(),
+        reserved: [0u8; 7],
     }
 }
 
@@ -96,10 +85,7 @@ pub fn returned(device: FpDevice) -> FpOutcome
             answer: NOT_A_DEVICE,
             tried: 0,
             confirm: 0,
-            bond: Bond {
-                wanted: false,
-                address: Address { bytes: [0u8; 6] },
-            },
+            bond: key_based::no_bond(),
         },
         reserved: [0u8; 6],
     }
@@ -116,7 +102,7 @@ pub fn no_report() -> FpReport
 }
 
 fn pack_links(sessions: Sessions) -> [FpSession; 8]
-    ensures { λ r. ⌜ r ≡ spec.plainLinks sessions ⌝ }
+    ensures { λ r. ⌜ r ≡ spec.packedLinks sessions ⌝ }
 {
     let nothing = Session::idle();
     let mut links = [pack_session(nothing); 8];
@@ -130,13 +116,13 @@ fn pack_links(sessions: Sessions) -> [FpSession; 8]
 }
 
 fn pack_session(session: Session) -> FpSession
-    ensures { λ r. ⌜ r ≡ spec.plainSession session ⌝ }
+    ensures { λ r. ⌜ r ≡ spec.packedSession session ⌝ }
 {
     let stage = session.stage;
     let since = session.since;
     let key = session.key;
     FpSession {
-        since: since.0,
+        since: since,
         passkey: session.passkey,
         stage: sessions::number(stage),
         key: key,
@@ -146,9 +132,9 @@ fn pack_session(session: Session) -> FpSession
 
 fn pack_keys(keys: AccountKeys) -> FpStored
     requires { ⌜ account.Valid keys ⌝ }
-    ensures { λ r. ⌜ r ≡ spec.plainKeys keys ⌝ }
+    ensures { λ r. ⌜ r ≡ spec.packedKeys keys ⌝ }
 {
-    let mut bytes = [0u8; 84];
+    let mut bytes = [0u8; STORED_LIST_MAX];
     let report = keys.write(&mut bytes);
     FpStored {
         length: report.length,
@@ -167,13 +153,13 @@ fn flag(on: bool) -> u8
 }
 
 fn pack_reply(reply: Reply) -> FpReply
-    ensures { λ r. ⌜ r ≡ spec.plainReply reply ⌝ }
+    ensures { λ r. ⌜ r ≡ spec.packedReply reply ⌝ }
 {
     let answer = reply.answer;
     let confirm = reply.confirm;
     let bond = reply.bond;
     FpReply {
-        answer: answer_number(answer),
+        answer: answer.number(),
         tried: reply.tried,
         confirm: confirm_number(confirm),
         bond: bond,
@@ -187,28 +173,5 @@ fn confirm_number(confirm: Confirm) -> u8
         Confirm::Unasked => 0,
         Confirm::Yes => 1,
         Confirm::No => 2,
-    }
-}
-
-// Document 01's number of an answer.
-fn answer_number(answer: Answer) -> u8
-    ensures { λ r. ⌜ r ≡ answerNumber answer ⌝ }
-{
-    match answer {
-        Answer::Taken => 0,
-        Answer::UnknownLink => 1,
-        Answer::WrongLength => 2,
-        Answer::PasskeyTooLarge => 3,
-        Answer::ClockWentBack => 4,
-        Answer::LockedOut => 5,
-        Answer::NotInPairingMode => 6,
-        Answer::NoKeyFits => 7,
-        Answer::SaltSpent => 8,
-        Answer::LinkIdle => 9,
-        Answer::WrongStage => 10,
-        Answer::CapabilityRefused => 11,
-        Answer::BadBlock => 12,
-        Answer::OutputTooShort => 13,
-        Answer::ListMalformed => 14,
     }
 }

@@ -9,8 +9,8 @@ use basics::Moment;
 use key_based::Element;
 ghost use mathlib.Core.Path.{_≡_};
 ghost use Rattle.capi.specs.Calls.{served, lentBack};
-ghost use Rattle.capi.specs.Plain.{elementOf};
-ghost use Rattle.provider.specs.KeyBased as rule;
+ghost use Rattle.capi.specs.Packed.{elementOf};
+ghost use Rattle.provider.specs.Rules.Event.{OnLink, KeyBasedWrite};
 
 #[no_mangle]
 pub extern "C" fn fp_key_based_write(
@@ -22,8 +22,8 @@ pub extern "C" fn fp_key_based_write(
     salt: &[u8; 9],
     out: &mut [u8],
 ) -> FpOutcome
-    ensures { λ r. ⌜ r ≡ served device (λ d. rule.keyBasedWrite d link clock (now (request .entry)) (elementOf element) (now (salt .entry)) (now (out .entry))) ⌝ }
-    ensures { λ r. ⌜ now (out .exit) ≡ lentBack device (λ d. rule.keyBasedWrite d link clock (now (request .entry)) (elementOf element) (now (salt .entry)) (now (out .entry))) (now (out .entry)) ⌝ }
+    ensures { λ r. ⌜ r ≡ served device (OnLink link clock (KeyBasedWrite (now (request .entry)) (elementOf element) (now (salt .entry)) (now (out .entry)))) ⌝ }
+    ensures { λ r. ⌜ now (out .exit) ≡ lentBack device (OnLink link clock (KeyBasedWrite (now (request .entry)) (elementOf element) (now (salt .entry)) (now (out .entry)))) ⌝ }
 {
     let from = unpack::unpack(device);
     if !from.known {

@@ -6,7 +6,7 @@ use crate::Unpacked;
 use account_keys::AccountKeys;
 use account_keys::ListForm;
 use account_keys::Reading;
-use basics::Moment;
+use account_keys::STORED_LIST_MAX;
 use provider::Beacon;
 use provider::Device;
 use request_guard::Failures;
@@ -16,9 +16,9 @@ use sessions::Sessions;
 use sessions::Stage;
 ghost use mathlib.Core.Bool.{true, false};
 ghost use mathlib.Core.Path.{_≡_};
-ghost use Rattle.capi.specs.Plain as spec;
-ghost use Rattle.capi.specs.Plain.{isDevice, deviceOf};
-ghost use Rattle.provider.specs.Control.{off};
+ghost use Rattle.capi.specs.Packed as spec;
+ghost use Rattle.capi.specs.Packed.{isDevice, deviceOf};
+ghost use Rattle.provider.specs.Rules.Control.{off};
 
 pub fn unpack(from: FpDevice) -> Unpacked
     ensures { λ r. ⌜ r ≡ record { known = isDevice from; device = deviceOf from } ⌝ }
@@ -71,8 +71,9 @@ fn with_keys(from: FpDevice, keys: AccountKeys) -> Device
     let identity = from.identity;
     let ble = from.ble;
     let salt = from.salt;
+    let clock = from.clock;
     Device {
-        clock: Moment(from.clock),
+        clock: clock,
         keys: keys,
         sessions: links_of(sessions),
         guard: guard.cleaned(),
@@ -89,11 +90,12 @@ fn guard_of(from: FpDevice) -> Guard
     ensures { λ r. ⌜ r ≡ spec.guardOf from ⌝ }
 {
     let spent = from.spent;
+    let failed = from.failed;
     Guard {
         spent: spent,
         failures: Failures {
             count: from.failures,
-            last: Moment(from.failed),
+            last: failed,
         },
     }
 }
@@ -102,7 +104,7 @@ fn list_of(stored: FpStored) -> Reading
     ensures { λ r. ⌜ r ≡ spec.listOf stored ⌝ }
 {
     let n = stored.length;
-    if 84 < n {
+    if STORED_LIST_MAX < n {
         return account_keys::malformed();
     }
     let bytes = stored.bytes;
@@ -170,10 +172,11 @@ fn held_in(from: FpSession, stage: Stage) -> Session
     ensures { λ r. ⌜ r ≡ spec.heldIn from stage ⌝ }
 {
     let key = from.key;
+    let since = from.since;
     Session {
         stage: stage,
         key: key,
-        since: Moment(from.since),
+        since: since,
         passkey: from.passkey,
     }
 }

@@ -12,8 +12,8 @@ use lib.ListN.{length, take, drop, getD, replicate}
 use lib.Seq.{take-all, take-take}
 use borrow.Author.Tests.{eq-eqb, ne-eqb, eqb-true}
 use Rattle.laws.proofs.Choice.{true-is}
-use Rattle.laws.proofs.Filled.{listed}
-use Rattle.laws.proofs.Lists.{drop-held, drop-taken}
+use Rattle.laws.proofs.Filled.{tabulate-getD}
+use Rattle.laws.proofs.Lists.{drop-take-more, drop-take-all}
 use Rattle.laws.specs.Tabulate.{tabulate}
 use Rattle.account_keys.specs.Keys.{Kept, held}
 use Rattle.account_keys.specs.declared.AccountKey.{AccountKey}
@@ -29,11 +29,11 @@ use Rattle.key_based.specs.declared.Search.{Search}
 use Rattle.request_guard.specs.declared.Salt.{Salt}
 use Rattle.sha256.specs.Hash.{sha256}
 use Rattle.key_based.specs.Request as spec
-use Rattle.account_keys.proofs.Laws.{room}
+use Rattle.account_keys.proofs.Laws.{length-keys}
 
 -- what a read past the end of an array of keys gives
-abbrev pub nowhere : AccountKey
-nowhere = record { bytes = [] }
+abbrev pub absentKey : AccountKey
+absentKey = record { bytes = [] }
 
 abbrev blocks : List AccountKey → List (List ℕ)
 blocks l = map (λ k. k .bytes) l
@@ -122,18 +122,18 @@ module _ (ble public : Address) (r : List ℕ) where
   module _ (ks : AccountKeys) (v : Kept ks) (i : ℕ) (p : Passed ks i) where
     -- the next one
     abbrev next : List ℕ
-    next = getD (ks .keys) i nowhere .bytes
+    next = getD (ks .keys) i absentKey .bytes
 
     next-key : i < ks .count → tried ble public r i (next ∷ blocks (drop (i + 1) (held ks)))
         ≡ tried ble public r 0
         (blocks (held ks))
     next-key h =
-        let inside : ks .count ≤ length (ks .keys) = omega (arith, v .few, room ks v) in
-        (rw (drop-held (ks .keys) (ks .count) i nowhere h inside)) ∙ p
+        let inside : ks .count ≤ length (ks .keys) = omega (arith, v .few, length-keys ks v) in
+        (rw (drop-take-more (ks .keys) (ks .count) i absentKey h inside)) ∙ p
 
     -- it fits
     pub key-fits : {a : Search} → i < ks .count
-        → a ≡ handedOver r (tried ble public r i (getD (ks .keys) i nowhere .bytes ∷ [])) → a .found ≡ true
+        → a ≡ handedOver r (tried ble public r i (getD (ks .keys) i absentKey .bytes ∷ [])) → a .found ≡ true
         → a ≡ handedOver r (tried ble public r 0 (blocks (held ks)))
     key-fits h e f =
         e ∙ ap (handedOver r) (stops i next (blocks (drop (i + 1) (held ks)))
@@ -141,7 +141,7 @@ module _ (ble public : Address) (r : List ℕ) where
 
     -- it does not
     pub key-passed : {a : Search} → i < ks .count
-        → a ≡ handedOver r (tried ble public r i (getD (ks .keys) i nowhere .bytes ∷ [])) → a .found ≡ false
+        → a ≡ handedOver r (tried ble public r i (getD (ks .keys) i absentKey .bytes ∷ [])) → a .found ≡ false
         → (a ≡ noneFits (i + 1)) × Passed ks (i + 1)
     key-passed h e f =
         let on = goes-on i next (blocks (drop (i + 1) (held ks)))
@@ -152,7 +152,7 @@ module _ (ble public : Address) (r : List ℕ) where
     pub all-passed : {a : Search} → ks .count ≤ i → a ≡ noneFits i
         → a ≡ handedOver r (tried ble public r 0 (blocks (held ks)))
     all-passed h e =
-        e ∙ ap (handedOver r) (sym (none-left i) ∙ rw (drop-taken (ks .keys) (ks .count) i h) at p)
+        e ∙ ap (handedOver r) (sym (none-left i) ∙ rw (drop-take-all (ks .keys) (ks .count) i h) at p)
 
 -- ---- the candidates of a request
 
@@ -211,7 +211,7 @@ module _ (p : List ℕ) (h : length p ≡ 16) where
             ∷ getD p 15 0 ∷ [];
       })
       (requestSalt p)
-  long-salt e = (λ i. saltOf (drop 8 (listed 16 p 0 h i))) ∙ rw (eq-eqb (bitAnd (getD p 1 0) 0x50) 0 e)
+  long-salt e = (λ i. saltOf (drop 8 (tabulate-getD 16 p 0 h i))) ∙ rw (eq-eqb (bitAnd (getD p 1 0) 0x50) 0 e)
 
   pub short-salt : (bitAnd (getD p 1 0) 0x50 ≡ 0 → ⊥)
       → _≡_ {A = Salt} (record {
@@ -219,7 +219,7 @@ module _ (p : List ℕ) (h : length p ≡ 16) where
         bytes = getD p 14 0 ∷ getD p 15 0 ∷ 0 ∷ 0 ∷ 0 ∷ 0 ∷ 0 ∷ 0 ∷ [];
       })
       (requestSalt p)
-  short-salt e = (λ i. saltOf (drop 14 (listed 16 p 0 h i))) ∙ rw (ne-eqb (bitAnd (getD p 1 0) 0x50) 0 e)
+  short-salt e = (λ i. saltOf (drop 14 (tabulate-getD 16 p 0 h i))) ∙ rw (ne-eqb (bitAnd (getD p 1 0) 0x50) 0 e)
 
   pub bond-wanted : (bitAnd (getD p 1 0) 0x40 ≡ 0 → ⊥)
       → _≡_ {A = Bond} (record {
@@ -231,7 +231,7 @@ module _ (p : List ℕ) (h : length p ≡ 16) where
       })
       (bondAsked p)
   bond-wanted e =
-      (λ i. record { wanted = true; address = record { bytes = take 6 (drop 8 (listed 16 p 0 h i)) } })
+      (λ i. record { wanted = true; address = record { bytes = take 6 (drop 8 (tabulate-getD 16 p 0 h i)) } })
       ∙ rw (ne-eqb (bitAnd (getD p 1 0) 0x40) 0 e)
 
 pub no-bond : (p : List ℕ) → bitAnd (getD p 1 0) 0x40 ≡ 0 → noBond ≡ bondAsked p
@@ -245,4 +245,4 @@ pub response-bytes : (key : List ℕ) (public : Address) (s : List ℕ) {x : Lis
     → x ≡ response key public s
 unfolding response
 response-bytes key public s p q e =
-    e ∙ (λ i. cipher key (0x01 ∷ listed 6 (public .bytes) 0 p i ++ listed 9 s 0 q i))
+    e ∙ (λ i. cipher key (0x01 ∷ tabulate-getD 6 (public .bytes) 0 p i ++ tabulate-getD 9 s 0 q i))

@@ -1,3 +1,4 @@
+pub mod Decision
 pub mod Promises
 pub mod Request
 pub mod Search

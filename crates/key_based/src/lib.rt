@@ -1,14 +1,24 @@
-// The key-based pairing block of source document 004, table 1: the keys that are tried, what a request and its response hold.
+// Document 01, "Key-based write", over the block of source document 004, table 1: the keys that are tried, the answer that a request
+// gets, what it changes and its response.
 use account_keys::AccountKeys;
 use basics::Address;
+use basics::Answer;
+use basics::Moment;
+use request_guard::Guard;
 use request_guard::Salt;
+use sessions::Session;
+use sessions::Stage;
 ghost use mathlib.Core.Path.{_≡_};
-ghost use mathlib.Core.Bool.{true};
+ghost use mathlib.Core.Bool.{true, not};
 ghost use mathlib.Core.List.{[], _∷_, map};
-ghost use Prim.Native.Nat.{_<_};
+ghost use Prim.Native.Nat.{_<_, _≤_};
+ghost use lib.ListN.{length};
 ghost use Rattle.account_keys.specs.Keys.{Kept, limit, held};
+ghost use Rattle.laws.specs.Choice.{_and_};
+ghost use Rattle.request_guard.specs.Guard as guards;
+ghost use Rattle.key_based.specs.Decision as rule;
 ghost use Rattle.key_based.specs.Request as spec;
-ghost use Rattle.key_based.specs.Request.{sized, requestSalt, bondAsked};
+ghost use Rattle.key_based.specs.Request.{sized, hasPublicKey, requestSalt, bondAsked, noBond};
 ghost use Rattle.key_based.specs.Search.{tried, noneFits, handedOver, searched};
 
 // What the secure element made of the public key in an 80-byte request.
@@ -32,8 +42,143 @@ pub struct Search {
     pub plain: [u8; 16],
 }
 
+// What a request is decided by, beside the link's session.
+pub struct Context {
+    pub ble: Address,
+    pub public: Address,
+    pub pairing: bool,
+    pub keys: AccountKeys,
+    pub guard: Guard,
+}
+
+// What a request comes to: the answer, all that it hands out, and the guard and the session afterwards.
+pub struct Decision {
+    pub answer: Answer,
+    pub tried: u8,
+    pub bond: Bond,
+    pub guard: Guard,
+    pub session: Session,
+}
+
+// Whether a request has one of the two lengths.
+pub fn is_sized(request: &[u8]) -> bool
+    ensures { λ r. ⌜ r ≡ sized (now (request .entry)) ⌝ }
+{
+    request.len() == 16 || request.len() == 80
+}
+
+// Decides a request; the response stands in front of `out` if it is accepted.
+pub fn decide(
+    context: Context,
+    session: Session,
+    clock: Moment,
+    request: &[u8],
+    element: Element,
+    salt: [u8; 9],
+    out: &mut [u8],
+) -> Decision
+    requires { ⌜ Kept (context .keys) × guards.Valid (context .guard) ⌝ }
+    requires { ⌜ (sized (now request) ≡ true) × (16 ≤ length (now out)) ⌝ }
+    ensures { λ r. ⌜ r ≡ rule.decided context session (clock .0) element (now (request .entry)) ⌝ }
+    ensures { λ r. ⌜ now (out .exit) ≡ rule.requestOutput context session (clock .0) element (now (request .entry)) salt (now (out .entry)) ⌝ }
+{
+    let decision = decided(context, session, clock, request, element);
+    let answer = decision.answer;
+    if !answer.is_taken() {
+        return decision;
+    }
+    let key = decision.session.key;
+    let address = context.public;
+    basics::put(out, 0, response(key, address, salt));
+    decision
+}
+
+// Answers 5 and 6, and then what the keys tried come to.
+fn decided(
+    context: Context,
+    session: Session,
+    clock: Moment,
+    request: &[u8],
+    element: Element,
+) -> Decision
+    requires { ⌜ Kept (context .keys) × guards.Valid (context .guard) × (sized (now request) ≡ true) ⌝ }
+    ensures { λ r. ⌜ r ≡ rule.decided context session (clock .0) element (now (request .entry)) ⌝ }
+{
+    let guard = context.guard;
+    if guard.locked() {
+        return refused(guard, session, Answer::LockedOut, 0);
+    }
+    if is_unwanted(request, context.pairing) {
+        return refused(guard, session, Answer::NotInPairingMode, 0);
+    }
+    let ble = context.ble;
+    let public = context.public;
+    let keys = context.keys;
+    let search = try_keys(ble, public, keys, element, request);
+    settled(guard, session, clock, search)
+}
+
+// No fit is a failure, a spent salt is refused, and else the request is accepted.
+fn settled(guard: Guard, session: Session, clock: Moment, search: Search) -> Decision
+    requires { ⌜ guards.Valid guard × (guard .failures .count < 10) ⌝ }
+    ensures { λ r. ⌜ r ≡ rule.settled guard session (clock .0) search ⌝ }
+{
+    if !search.found {
+        return refused(
+            guard.failed(clock),
+            session,
+            Answer::NoKeyFits,
+            search.tried,
+        );
+    }
+    let plain = search.plain;
+    let salt = request_salt(plain);
+    if guard.is_spent(salt) {
+        return refused(guard, session, Answer::SaltSpent, search.tried);
+    }
+    let key = search.key;
+    Decision {
+        answer: Answer::Taken,
+        tried: search.tried,
+        bond: bond_asked(plain),
+        guard: guard.accepted(salt),
+        session: asked(key, clock),
+    }
+}
+
+// An answer after `tried` keys that hands out no address.
+fn refused(guard: Guard, session: Session, answer: Answer, tried: u8) -> Decision
+    ensures { λ r. ⌜ r ≡ rule.refused guard session answer tried ⌝ }
+{
+    Decision {
+        answer: answer,
+        tried: tried,
+        bond: no_bond(),
+        guard: guard,
+        session: session,
+    }
+}
+
+// A request with a public key while pairing mode is off.
+fn is_unwanted(request: &[u8], pairing: bool) -> bool
+    ensures { λ r. ⌜ r ≡ (hasPublicKey (now (request .entry)) and not pairing) ⌝ }
+{
+    request.len() == 80 && !pairing
+}
+
+fn asked(key: [u8; 16], clock: Moment) -> Session
+    ensures { λ r. ⌜ r ≡ rule.asked key (clock .0) ⌝ }
+{
+    Session {
+        stage: Stage::Asked,
+        key: key,
+        since: clock,
+        passkey: 0,
+    }
+}
+
 // The candidates of a request of 16 or 80 bytes, tried in order up to the first that fits.
-pub fn try_keys(
+fn try_keys(
     ble: Address,
     public: Address,
     keys: AccountKeys,
@@ -105,7 +250,7 @@ fn none_fits(count: u8) -> Search
 }
 
 // A block that names one of our addresses.
-pub fn fitting(ble: Address, public: Address, plain: [u8; 16]) -> bool
+fn fitting(ble: Address, public: Address, plain: [u8; 16]) -> bool
     ensures { λ r. ⌜ r ≡ spec.fitting ble public plain ⌝ }
 {
     if plain[0] != 0x00 {
@@ -119,7 +264,7 @@ pub fn fitting(ble: Address, public: Address, plain: [u8; 16]) -> bool
 }
 
 // The salt of a request: two bytes where bytes 8 to 13 hold the seeker's address.
-pub fn request_salt(plain: [u8; 16]) -> Salt
+fn request_salt(plain: [u8; 16]) -> Salt
     ensures { λ r. ⌜ r ≡ requestSalt plain ⌝ }
 {
     let flags = plain[1];
@@ -145,15 +290,12 @@ pub fn request_salt(plain: [u8; 16]) -> Salt
 }
 
 // The address that the request asks us to bond with.
-pub fn bond_asked(plain: [u8; 16]) -> Bond
+fn bond_asked(plain: [u8; 16]) -> Bond
     ensures { λ r. ⌜ r ≡ bondAsked plain ⌝ }
 {
     let flags = plain[1];
     if flags & 0x40 == 0 {
-        return Bond {
-            wanted: false,
-            address: Address { bytes: [0u8; 6] },
-        };
+        return no_bond();
     }
     Bond {
         wanted: true,
@@ -170,8 +312,17 @@ pub fn bond_asked(plain: [u8; 16]) -> Bond
     }
 }
 
+pub fn no_bond() -> Bond
+    ensures { λ r. ⌜ r ≡ noBond ⌝ }
+{
+    Bond {
+        wanted: false,
+        address: Address { bytes: [0u8; 6] },
+    }
+}
+
 // The response to an accepted request, encrypted with its key.
-pub fn response(key: [u8; 16], public: Address, salt: [u8; 9]) -> [u8; 16]
+fn response(key: [u8; 16], public: Address, salt: [u8; 9]) -> [u8; 16]
     ensures { λ r. ⌜ r ≡ spec.response key public salt ⌝ }
 {
     let a = public.bytes;

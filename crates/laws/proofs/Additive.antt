@@ -13,16 +13,16 @@ use Rattle.laws.proofs.Bitwise.{by-bit}
 pub record Additive (f : ℕ → ℕ) : Type 0 where
   pub adds : (a b : ℕ) → f (bitXor a b) ≡ bitXor (f a) (f b)
 
-pub at-zero : {f : ℕ → ℕ} → Additive f → f 0 ≡ 0
-at-zero {f} p = p .adds 0 0 ∙ xor-self (f 0)
+pub additive-zero : {f : ℕ → ℕ} → Additive f → f 0 ≡ 0
+additive-zero {f} p = p .adds 0 0 ∙ xor-self (f 0)
 
-pub agree : {f g : ℕ → ℕ} → Additive f → Additive g
+pub additive-agree : {f g : ℕ → ℕ} → Additive f → Additive g
     → (n : ℕ) → ((k : ℕ) → k < n → f (2 ^ k) ≡ g (2 ^ k)) → (x : ℕ) → x < 2 ^ n → f x ≡ g x
-agree p q zero e x h = rw (lt-one h) (at-zero p ∙ sym (at-zero q))
-agree {f} {g} p q (suc n) e x h =
+additive-agree p q zero e x h = rw (lt-one h) (additive-zero p ∙ sym (additive-zero q))
+additive-agree {f} {g} p q (suc n) e x h =
     rw (sym whole) (p .adds high low ∙ rw (
       top,
-      agree p q n (λ k l. e k (omega arith)) low
+      additive-agree p q n (λ k l. e k (omega arith)) low
           (mod-lt x (pow-pos n)),
     ) (sym (q .adds high low)))
   where
@@ -37,5 +37,5 @@ agree {f} {g} p q (suc n) e x h =
 
     top : f high ≡ g high
     top =
-        by-bit (λ b. f (b * 2 ^ n) ≡ g (b * 2 ^ n)) (rw zero-mul (at-zero p ∙ sym (at-zero q)))
+        by-bit (λ b. f (b * 2 ^ n) ≡ g (b * 2 ^ n)) (rw zero-mul (additive-zero p ∙ sym (additive-zero q)))
         (rw one-mul (e n (omega arith))) (x / 2 ^ n) (shr-lt 1 n (rw (add-comm 1 n, add-one) h))

@@ -13,6 +13,12 @@ module _ {ℓ} {A : Type ℓ} (P : A → Type 0) where
   all-get (x ∷ xs) p zero z h = p .0
   all-get (x ∷ xs) p (suc i) z h = all-get xs (p .1) i z (le-of-suc-le-suc h)
 
+  -- also past the end
+  pub all-getD : (l : List A) (z : A) → All P l → P z → (i : ℕ) → P (getD l i z)
+  all-getD [] z p q i = q
+  all-getD (x ∷ xs) z p q zero = p .0
+  all-getD (x ∷ xs) z p q (suc i) = all-getD xs z (p .1) q i
+
   pub all-take : (n : ℕ) (l : List A) → All P l → All P (take n l)
   all-take zero l p = tt
   all-take (suc n) [] p = tt
@@ -40,9 +46,9 @@ module _ {ℓ} {A : Type ℓ} (P : A → Type 0) where
   all-append [] b p q = q
   all-append (x ∷ xs) b p q = (p .0, all-append xs b (p .1) q)
 
-pub all-map {ℓ} : {A : Type ℓ} (P Q : A → Type 0) → ((a : A) → P a → Q a) → (l : List A) → All P l → All Q l
-all-map P Q f [] p = tt
-all-map P Q f (x ∷ xs) p = (f x (p .0), all-map P Q f xs (p .1))
+pub all-implies {ℓ} : {A : Type ℓ} (P Q : A → Type 0) → ((a : A) → P a → Q a) → (l : List A) → All P l → All Q l
+all-implies P Q f [] p = tt
+all-implies P Q f (x ∷ xs) p = (f x (p .0), all-implies P Q f xs (p .1))
 
 pub all-tabulate : {A : Type 0} (P : A → Type 0) (n : ℕ) (f : ℕ → A) → ((i : ℕ) → P (f i)) → All P (tabulate n f)
 all-tabulate P zero f p = tt

@@ -23,9 +23,9 @@ pub if-same {ℓ} : {A : Type ℓ} (b : Bool) {x y : A} → (b ≡ true → x �
 if-same true e = e refl
 if-same false e = refl
 
-pub or-false : (a b : Bool) → (a or b) ≡ false → b ≡ false
-or-false true b e = absurd (true-is (sym e))
-or-false false b e = e
+pub or-false-right : (a b : Bool) → (a or b) ≡ false → b ≡ false
+or-false-right true b e = absurd (true-is (sym e))
+or-false-right false b e = e
 
 pub and-left : (a b : Bool) → (a and b) ≡ true → a ≡ true
 and-left true b e = refl

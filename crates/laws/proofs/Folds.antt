@@ -33,13 +33,13 @@ module _ {A B : Type 0} (f : B → A → B) where
   -- steps that may be exchanged
   module _ (exchange : (b : B) (x y : A) → f (f b x) y ≡ f (f b y) x) where
     -- one of them goes past all
-    past : (b : B) (x : A) (l : List A) → foldl f (f b x) l ≡ f (foldl f b l) x
-    past b x [] = refl
-    past b x (y ∷ l) = ap (λ (c : B). foldl f c l) (exchange b x y) ∙ past (f b y) x l
+    fold-past : (b : B) (x : A) (l : List A) → foldl f (f b x) l ≡ f (foldl f b l) x
+    fold-past b x [] = refl
+    fold-past b x (y ∷ l) = ap (λ (c : B). foldl f c l) (exchange b x y) ∙ fold-past (f b y) x l
 
     pub fold-fold : (b : B) (l m : List A) → foldl f (foldl f b l) m ≡ foldl f (foldl f b m) l
     fold-fold b [] m = refl
-    fold-fold b (x ∷ l) m = fold-fold (f b x) l m ∙ ap (λ (c : B). foldl f c l) (past b x m)
+    fold-fold b (x ∷ l) m = fold-fold (f b x) l m ∙ ap (λ (c : B). foldl f c l) (fold-past b x m)
 
     pub fold-order : {l m : List A} → List·Permᴰ l m → (b : B) → foldl f b l ≡ foldl f b m
     fold-order List·Permᴰ·nil b = refl
@@ -49,8 +49,8 @@ module _ {A B : Type 0} (f : B → A → B) where
         ap (λ (c : B). foldl f c l) (exchange b x y ∙ ap₂ (λ (v w : A). f (f b v) w) g e)
     fold-order (List·Permᴰ·trans p q) b = fold-order p b ∙ fold-order q b
 
-pub permuted-long : {A : Type 0} {l m : List A} → List·Permᴰ l m → length l ≡ length m
-permuted-long List·Permᴰ·nil = refl
-permuted-long (List·Permᴰ·cons e p) = ap suc (permuted-long p)
-permuted-long (List·Permᴰ·swap e g) = refl
-permuted-long (List·Permᴰ·trans p q) = permuted-long p ∙ permuted-long q
+pub length-permuted : {A : Type 0} {l m : List A} → List·Permᴰ l m → length l ≡ length m
+length-permuted List·Permᴰ·nil = refl
+length-permuted (List·Permᴰ·cons e p) = ap suc (length-permuted p)
+length-permuted (List·Permᴰ·swap e g) = refl
+length-permuted (List·Permᴰ·trans p q) = length-permuted p ∙ length-permuted q

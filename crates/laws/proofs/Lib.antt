@@ -5,7 +5,7 @@ pub mod Bitwise
 pub mod Choice
 pub mod Filled
 pub mod Folds
-pub mod Growing
+pub mod Front
 pub mod Lists
 pub mod Loops
 pub mod Or

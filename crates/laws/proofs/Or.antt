@@ -18,8 +18,8 @@ or-assoc =
     (by-bits (λ q r. max (bitOr 1 q) r ≡ max 1 (bitOr q r)) refl refl refl refl))
 
 -- which of two comes first is free
-pub or-order : (a b c : ℕ) → bitOr (bitOr a b) c ≡ bitOr (bitOr a c) b
-or-order a b c = or-assoc a b c ∙ ap (bitOr a) (or-comm b c) ∙ sym (or-assoc a c b)
+pub or-right-comm : (a b c : ℕ) → bitOr (bitOr a b) c ≡ bitOr (bitOr a c) b
+or-right-comm a b c = or-assoc a b c ∙ ap (bitOr a) (or-comm b c) ∙ sym (or-assoc a c b)
 
 -- bit k of a number
 abbrev bit : ℕ → ℕ → ℕ
@@ -29,30 +29,30 @@ or-bit : (a b k : ℕ) → bit (bitOr a b) k ≡ bitOr (bit a k) (bit b k)
 or-bit a b k = rw (or-shr a b k, or-mod (a / 2 ^ k) (b / 2 ^ k) 1)
 
 -- a bit that is set stays set
-pub or-keeps : (a b k : ℕ) → bit a k ≡ 1 → bit (bitOr a b) k ≡ 1
-or-keeps a b k e =
+pub or-keeps-bit : (a b k : ℕ) → bit a k ≡ 1 → bit (bitOr a b) k ≡ 1
+or-keeps-bit a b k e =
     or-bit a b k ∙ rw e (by-bit (λ n. bitOr 1 n ≡ 1) refl refl (bit b k) (mod-lt (b / 2 ^ k) (lit< tt)))
 
 -- the power's own bit is set
-pub or-sets : (a k : ℕ) → bit (bitOr a (2 ^ k)) k ≡ 1
-or-sets a k =
+pub or-sets-bit : (a k : ℕ) → bit (bitOr a (2 ^ k)) k ≡ 1
+or-sets-bit a k =
     or-bit a (2 ^ k) k
     ∙ rw (div-self (pow-pos k)) (by-bit (λ n. bitOr n 1 ≡ 1) refl refl (bit a k) (mod-lt (a / 2 ^ k) (lit< tt)))
 
 -- the same in a list of numbers: v is joined to the one at i
-pub or-keeps-at : (l : List ℕ) (i j v k : ℕ) → bit (getD l j 0) k ≡ 1 → bit
+pub set-or-keeps-bit : (l : List ℕ) (i j v k : ℕ) → bit (getD l j 0) k ≡ 1 → bit
     (getD (set l i (bitOr (getD l i 0) v)) j 0) k ≡ 1
-or-keeps-at [] i j v k h = h
-or-keeps-at (x ∷ xs) zero zero v k h = or-keeps x v k h
-or-keeps-at (x ∷ xs) zero (suc j) v k h = h
-or-keeps-at (x ∷ xs) (suc i) zero v k h = h
-or-keeps-at (x ∷ xs) (suc i) (suc j) v k h = or-keeps-at xs i j v k h
+set-or-keeps-bit [] i j v k h = h
+set-or-keeps-bit (x ∷ xs) zero zero v k h = or-keeps-bit x v k h
+set-or-keeps-bit (x ∷ xs) zero (suc j) v k h = h
+set-or-keeps-bit (x ∷ xs) (suc i) zero v k h = h
+set-or-keeps-bit (x ∷ xs) (suc i) (suc j) v k h = set-or-keeps-bit xs i j v k h
 
-pub or-order-at : (l : List ℕ) (i j v w : ℕ)
+pub set-or-comm : (l : List ℕ) (i j v w : ℕ)
     → set (set l i (bitOr (getD l i 0) v)) j (bitOr (getD (set l i (bitOr (getD l i 0) v)) j 0) w)
     ≡ set (set l j (bitOr (getD l j 0) w)) i (bitOr (getD (set l j (bitOr (getD l j 0) w)) i 0) v)
-or-order-at [] i j v w = refl
-or-order-at (x ∷ xs) zero zero v w = ap (λ (y : ℕ). y ∷ xs) (or-order x v w)
-or-order-at (x ∷ xs) zero (suc j) v w = refl
-or-order-at (x ∷ xs) (suc i) zero v w = refl
-or-order-at (x ∷ xs) (suc i) (suc j) v w = ap (λ (l : List ℕ). x ∷ l) (or-order-at xs i j v w)
+set-or-comm [] i j v w = refl
+set-or-comm (x ∷ xs) zero zero v w = ap (λ (y : ℕ). y ∷ xs) (or-right-comm x v w)
+set-or-comm (x ∷ xs) zero (suc j) v w = refl
+set-or-comm (x ∷ xs) (suc i) zero v w = refl
+set-or-comm (x ∷ xs) (suc i) (suc j) v w = ap (λ (l : List ℕ). x ∷ l) (set-or-comm xs i j v w)

@@ -12,7 +12,7 @@ abbrev pub all : List Bool → Bool
 all [] = true
 all (b ∷ bs) = b and all bs
 
-pub place : (bs : List Bool) → T (all bs) → (k : ℕ) → T (getD bs k true)
-place [] t k = tt
-place (b ∷ bs) t zero = passes-left b (all bs) t
-place (b ∷ bs) t (suc k) = place bs (passes-right b (all bs) t) k
+pub all-at : (bs : List Bool) → T (all bs) → (k : ℕ) → T (getD bs k true)
+all-at [] t k = tt
+all-at (b ∷ bs) t zero = passes-left b (all bs) t
+all-at (b ∷ bs) t (suc k) = all-at bs (passes-right b (all bs) t) k

@@ -26,12 +26,12 @@ xor-cancel a b = xor-assoc a b b ∙ ap (bitXor a) (xor-self b) ∙ xor-zero-r a
 pub xor-shl : (a b k : ℕ) → bitXor (a * 2 ^ k) (b * 2 ^ k) ≡ bitXor a b * 2 ^ k
 xor-shl a b k = simp add-zero at (xor-block k a b 0 0 (pow-pos k) (pow-pos k))
 
-pub xor-left : (a b c d : ℕ) → bitXor a (bitXor b (bitXor c d)) ≡ bitXor (bitXor (bitXor a b) c) d
-xor-left a b c d = sym (xor-assoc (bitXor a b) c d ∙ xor-assoc a b (bitXor c d))
+pub xor-assoc4 : (a b c d : ℕ) → bitXor a (bitXor b (bitXor c d)) ≡ bitXor (bitXor (bitXor a b) c) d
+xor-assoc4 a b c d = sym (xor-assoc (bitXor a b) c d ∙ xor-assoc a b (bitXor c d))
 
 -- the last of four comes first
-pub xor-turn : (a b c d : ℕ) → bitXor (bitXor (bitXor a b) c) d ≡ bitXor (bitXor (bitXor d a) b) c
-xor-turn a b c d =
+pub xor-rotate4 : (a b c d : ℕ) → bitXor (bitXor (bitXor a b) c) d ≡ bitXor (bitXor (bitXor d a) b) c
+xor-rotate4 a b c d =
     xor-comm (bitXor (bitXor a b) c) d
     ∙ sym (xor-assoc d (bitXor a b) c)
     ∙ ap (λ (x : ℕ). bitXor x c) (sym (xor-assoc d a b))

@@ -1,11 +1,2 @@
-pub mod Answers
-pub mod Device
-pub mod Control
-pub mod KeyBased
-pub mod Pairing
-pub mod Event
-pub mod Kinds
-pub mod Table
 pub mod Demands
-pub mod Samples
-pub mod Steps
+pub mod Rules

@@ -1,55 +1,29 @@
 // The Fast Pair provider: one method for each event of document 01. A device goes in by value, and the next one comes back.
-mod pairing;
-mod requests;
+mod links;
 
 use account_keys::AccountKeys;
 use account_keys::ListForm;
 use advertising::Prompt;
 use basics::Address;
+use basics::Answer;
 use basics::Link;
 use basics::Moment;
 use basics::Report;
 use key_based::Bond;
+use pairing::Confirm;
 use request_guard::Guard;
-use sessions::Session;
 use sessions::Sessions;
 ghost use mathlib.Core.Path.{_≡_};
-ghost use Prim.Native.Nat.{_<_};
+ghost use mathlib.Core.List.{[]};
 ghost use Rattle.account_keys.specs.Keys.{held};
 ghost use Rattle.account_keys.specs.StoredList.{writing};
 ghost use Rattle.basics.specs.Output.{reportOf, placed};
-ghost use Rattle.sessions.specs.Sessions.{linkCount};
-ghost use Rattle.provider.specs.Answers as reply;
-ghost use Rattle.provider.specs.Control as rule;
-ghost use Rattle.provider.specs.Control.{advertised};
-ghost use Rattle.provider.specs.Demands.{Valid};
-ghost use Rattle.provider.specs.Device.{given, clockStep, dropAll, dropAt, withLink};
-
-// Document 01's answers, one for each row of its table; `answerNumber` of specs/Answers gives the number.
-pub enum Answer {
-    Taken,
-    UnknownLink,
-    WrongLength,
-    PasskeyTooLarge,
-    ClockWentBack,
-    LockedOut,
-    NotInPairingMode,
-    NoKeyFits,
-    SaltSpent,
-    LinkIdle,
-    WrongStage,
-    CapabilityRefused,
-    BadBlock,
-    OutputTooShort,
-    ListMalformed,
-}
-
-// Whether the radio is to confirm the passkey.
-pub enum Confirm {
-    Unasked,
-    Yes,
-    No,
-}
+ghost use Rattle.provider.specs.Demands.Validity.{Valid};
+ghost use Rattle.provider.specs.Rules.Control as control;
+ghost use Rattle.provider.specs.Rules.Control.{advertised};
+ghost use Rattle.provider.specs.Rules.Device.{given, takes, clockStep, dropAll, inTime, onKnownLink, checkedOf};
+ghost use Rattle.provider.specs.Rules.Device as device;
+ghost use Rattle.provider.specs.Rules.Event.{step, Overflow, PowerOn, OnDevice, PairingMode, AddressRotated, FactoryReset};
 
 // All that an answer hands out.
 pub struct Reply {
@@ -97,23 +71,29 @@ pub struct Outcome {
     pub reply: Reply,
 }
 
+// Whether an event passed the checks before it; if not, `outcome` is its own, and else it holds the device after the clock step.
+struct Checked {
+    passed: bool,
+    outcome: Outcome,
+}
+
 impl Device {
     // The value before any device was made.
     pub fn off() -> Device
-        ensures { λ r. ⌜ r ≡ rule.off ⌝ }
+        ensures { λ r. ⌜ r ≡ control.off ⌝ }
     {
-        let nowhere = Address { bytes: [0u8; 6] };
+        let none = Address { bytes: [0u8; 6] };
         Device {
             clock: Moment(0),
             keys: AccountKeys::none(),
             sessions: Sessions::all_idle(),
             guard: Guard::new(),
             identity: Identity {
-                public: nowhere,
+                public: none,
                 model: [0u8; 3],
             },
             beacon: Beacon {
-                ble: nowhere,
+                ble: none,
                 salt: [0u8; 2],
                 pairing: false,
             },
@@ -122,7 +102,7 @@ impl Device {
 
     // Power-on from the stored list; a malformed one leaves the earlier device as it was.
     pub fn power_on(mut self, stored: &[u8], start: Start) -> Outcome
-        ensures { λ r. ⌜ r ≡ rule.powerOn self (now (stored .entry)) start .gives ⌝ }
+        ensures { λ r. ⌜ r ≡ step self (PowerOn (now (stored .entry)) start) .gives ⌝ }
     {
         let list = account_keys::read(stored);
         let form = list.form;
@@ -137,48 +117,34 @@ impl Device {
 
     // Events were lost, so no link's key can be trusted any more.
     pub fn overflow(mut self) -> Outcome
-        ensures { λ r. ⌜ r ≡ rule.overflow self .gives ⌝ }
+        ensures { λ r. ⌜ r ≡ step self Overflow .gives ⌝ }
     {
         self = self.drop_all();
         self.answers(Answer::Taken)
     }
 
-    pub fn link_up(mut self, link: Link, clock: Moment) -> Outcome
-        requires { ⌜ Valid self ⌝ }
-        ensures { λ r. ⌜ r ≡ rule.linkChanged self (link .0) (clock .0) .gives ⌝ }
-    {
-        self.link_changed(link, clock)
-    }
-
-    pub fn link_down(mut self, link: Link, clock: Moment) -> Outcome
-        requires { ⌜ Valid self ⌝ }
-        ensures { λ r. ⌜ r ≡ rule.linkChanged self (link .0) (clock .0) .gives ⌝ }
-    {
-        self.link_changed(link, clock)
-    }
-
     pub fn pairing_mode(mut self, on: bool, clock: Moment) -> Outcome
         requires { ⌜ Valid self ⌝ }
-        ensures { λ r. ⌜ r ≡ rule.pairingMode self on (clock .0) .gives ⌝ }
+        ensures { λ r. ⌜ r ≡ step self (OnDevice (clock .0) (PairingMode on)) .gives ⌝ }
     {
-        let stored = self.clock;
-        if clock.0 < stored.0 {
-            return self.went_back();
+        let checked = self.in_time(clock);
+        if !checked.passed {
+            return checked.outcome;
         }
-        self = self.clock_step(clock);
+        self = checked.outcome.next;
         self.beacon.pairing = on;
         self.answers(Answer::Taken)
     }
 
     pub fn address_rotated(mut self, ble: Address, salt: [u8; 2], clock: Moment) -> Outcome
         requires { ⌜ Valid self ⌝ }
-        ensures { λ r. ⌜ r ≡ rule.addressRotated self ble salt (clock .0) .gives ⌝ }
+        ensures { λ r. ⌜ r ≡ step self (OnDevice (clock .0) (AddressRotated ble salt)) .gives ⌝ }
     {
-        let stored = self.clock;
-        if clock.0 < stored.0 {
-            return self.went_back();
+        let checked = self.in_time(clock);
+        if !checked.passed {
+            return checked.outcome;
         }
-        self = self.clock_step(clock);
+        self = checked.outcome.next;
         let pairing = self.beacon.pairing;
         let beacon = Beacon {
             ble: ble,
@@ -191,13 +157,14 @@ impl Device {
 
     pub fn factory_reset(mut self, clock: Moment) -> Outcome
         requires { ⌜ Valid self ⌝ }
-        ensures { λ r. ⌜ r ≡ rule.factoryReset self (clock .0) .gives ⌝ }
+        ensures { λ r. ⌜ r ≡ step self (OnDevice (clock .0) FactoryReset) .gives ⌝ }
     {
-        let stored = self.clock;
-        if clock.0 < stored.0 {
-            return self.went_back();
+        let checked = self.in_time(clock);
+        if !checked.passed {
+            return checked.outcome;
         }
-        self = self.clock_step(clock).drop_all();
+        self = checked.outcome.next;
+        self.sessions = Sessions::all_idle();
         self.guard = Guard::new();
         self.keys = AccountKeys::none();
         self.answers(Answer::Taken)
@@ -225,36 +192,54 @@ impl Device {
         keys.write(out)
     }
 
-    fn link_changed(mut self, link: Link, clock: Moment) -> Outcome
-        requires { ⌜ Valid self ⌝ }
-        ensures { λ r. ⌜ r ≡ rule.linkChanged self (link .0) (clock .0) .gives ⌝ }
-    {
-        if 7 < link.0 {
-            return self.answers(Answer::UnknownLink);
-        }
-        let stored = self.clock;
-        if clock.0 < stored.0 {
-            return self.went_back();
-        }
-        self = self.clock_step(clock).drop_at(link);
-        self.answers(Answer::Taken)
-    }
-
     // An answer that hands out nothing.
     fn answers(self, answer: Answer) -> Outcome
         ensures { λ r. ⌜ r ≡ given self answer ⌝ }
     {
         Outcome {
             next: self,
-            reply: plain(answer),
+            reply: Reply {
+                answer: answer,
+                tried: 0,
+                bond: key_based::no_bond(),
+                confirm: Confirm::Unasked,
+            },
         }
     }
 
-    // Answer 4: a clock below the stored one says that events are out of order.
-    fn went_back(self) -> Outcome
-        ensures { λ r. ⌜ r ≡ given (dropAll self) Answer.ClockWentBack ⌝ }
+    // Checks 1, 2, 3, 13 and 4 of an event on a link, and the clock step; `early` is the answer of 2, 3 and 13.
+    fn on_known_link(self, link: Link, clock: Moment, early: Answer) -> Checked
+        requires { ⌜ Valid self ⌝ }
+        ensures { λ r. ⌜ r ≡ checkedOf (onKnownLink self (link .0) (clock .0) early [] takes .gives) ⌝ }
     {
-        self.drop_all().answers(Answer::ClockWentBack)
+        if 7 < link.0 {
+            return self.checked(Answer::UnknownLink);
+        }
+        if !early.is_taken() {
+            return self.checked(early);
+        }
+        self.in_time(clock)
+    }
+
+    // Answer 4, or the clock step: a clock below the stored one says that events are out of order.
+    fn in_time(self, clock: Moment) -> Checked
+        requires { ⌜ Valid self ⌝ }
+        ensures { λ r. ⌜ r ≡ checkedOf (inTime self (clock .0) [] takes .gives) ⌝ }
+    {
+        let last = self.clock;
+        if clock.0 < last.0 {
+            return self.drop_all().checked(Answer::ClockWentBack);
+        }
+        self.clock_step(clock).checked(Answer::Taken)
+    }
+
+    fn checked(self, answer: Answer) -> Checked
+        ensures { λ r. ⌜ r ≡ checkedOf (given self answer) ⌝ }
+    {
+        Checked {
+            passed: answer.is_taken(),
+            outcome: self.answers(answer),
+        }
     }
 
     fn clock_step(mut self, clock: Moment) -> Device
@@ -275,26 +260,10 @@ impl Device {
         self.sessions = Sessions::all_idle();
         self
     }
-
-    fn with_session(mut self, link: Link, session: Session) -> Device
-        requires { ⌜ link .0 < linkCount ⌝ }
-        ensures { λ r. ⌜ r ≡ withLink self (link .0) session ⌝ }
-    {
-        let sessions = self.sessions;
-        self.sessions = sessions.with(link, session);
-        self
-    }
-
-    fn drop_at(self, link: Link) -> Device
-        requires { ⌜ link .0 < linkCount ⌝ }
-        ensures { λ r. ⌜ r ≡ dropAt self (link .0) ⌝ }
-    {
-        self.with_session(link, Session::idle())
-    }
 }
 
 fn started(keys: AccountKeys, start: Start) -> Device
-    ensures { λ r. ⌜ r ≡ rule.started keys start ⌝ }
+    ensures { λ r. ⌜ r ≡ control.started keys start ⌝ }
 {
     let identity = start.identity;
     let ble = start.ble;
@@ -310,19 +279,5 @@ fn started(keys: AccountKeys, start: Start) -> Device
             salt: salt,
             pairing: false,
         },
-    }
-}
-
-fn plain(answer: Answer) -> Reply
-    ensures { λ r. ⌜ r ≡ reply.plain answer ⌝ }
-{
-    Reply {
-        answer: answer,
-        tried: 0,
-        bond: Bond {
-            wanted: false,
-            address: Address { bytes: [0u8; 6] },
-        },
-        confirm: Confirm::Unasked,
     }
 }

@@ -1,13 +1,13 @@
 -- Document 01, "The device and its events": spent salts and counted failures.
 -- Assumes nothing.
-use mathlib.Core.Bool.{Bool, false}
+use mathlib.Core.Bool.{Bool, true, false}
 use mathlib.Core.List.{List, [], _∷_, _++_}
 use mathlib.Core.Path.{_≡_}
 use Prim.Native.Nat.{ℕ, _+_, _-_, _≤_}
 use lib.Dec.{leb, eqb}
 use lib.ListN.{length, take, drop, getD, replicate}
 use Rattle.laws.specs.Choice.{if_then_else_, _and_, _or_}
-use Rattle.laws.specs.Lists.{padded}
+use Rattle.laws.specs.Lists.{padded, All}
 use Rattle.laws.specs.Tabulate.{tabulate}
 use Rattle.basics.specs.Bytes.{same}
 use Rattle.request_guard.specs.declared.Failures.{Failures}
@@ -19,8 +19,29 @@ use Rattle.request_guard.specs.declared.SpentSalts.{SpentSalts}
 abbrev pub saltLimit : ℕ
 saltLimit = 16
 
+-- the most bytes that a salt has
+abbrev pub saltRoom : ℕ
+saltRoom = 8
+
 abbrev pub noSalt : Salt
-noSalt = record { length = 0; bytes = replicate 8 0 }
+noSalt = record { length = 0; bytes = replicate saltRoom 0 }
+
+-- "The salt is bytes 14 to 15 if flags 0x40 or 0x10 is set, else 8 to 15."
+abbrev pub sizedSalt : Salt → Bool
+sizedSalt s = eqb (s .length) 2 or eqb (s .length) 8
+
+-- its first `length` bytes; what stands behind them is left out
+abbrev pub saltBytes : Salt → List ℕ
+saltBytes s = tabulate (s .length) (λ i. getD (s .bytes) i 0)
+
+-- the salt with zeros behind its length, whatever stood there
+abbrev pub cleanedSalt : Salt → Salt
+cleanedSalt s = record { length = s .length; bytes = padded saltRoom 0 (saltBytes s) }
+
+-- what holds of every salt that a request has: 2 or 8 bytes, and zeros behind them
+pub record Proper (s : Salt) : Type 0 where
+  pub sized : sizedSalt s ≡ true
+  pub clean : s ≡ cleanedSalt s
 
 -- the salts remembered, the last one accepted last
 abbrev pub remembered : SpentSalts → List Salt
@@ -77,16 +98,22 @@ guardAt t g = if leb 300000 (t - g .failures .last .0) then withFailures g noFai
 pub record Valid (g : Guard) : Type 0 where
   pub few : g .spent .count ≤ saltLimit
   pub whole : g .spent ≡ salts (remembered (g .spent))
+  pub proper : All Proper (remembered (g .spent))
   pub bounded : g .failures .count ≤ 10
   pub cleared : g .failures .count ≡ 0 → g .failures ≡ noFailures
 
--- counts that a guard can have
-abbrev pub bounded : Guard → Bool
-bounded g = leb (g .spent .count) saltLimit and leb (g .failures .count) 10
-
--- the first `count` salts; what stands behind them is left out
+-- the first `count` salts, cleaned; what stands behind them is left out
 abbrev pub inUse : SpentSalts → List Salt
-inUse ss = tabulate (ss .count) (λ i. getD (ss .salts) i noSalt)
+inUse ss = tabulate (ss .count) (λ i. cleanedSalt (getD (ss .salts) i noSalt))
+
+abbrev pub allSized : List Salt → Bool
+allSized [] = true
+allSized (s ∷ ss) = sizedSalt s and allSized ss
+
+-- counts that a guard can have, and salts of 2 or 8 bytes
+abbrev pub bounded : Guard → Bool
+bounded g =
+    leb (g .spent .count) saltLimit and leb (g .failures .count) 10 and allSized (inUse (g .spent))
 
 -- a guard whose unused places are zero, whatever they held
 abbrev pub cleaned : Guard → Guard

@@ -10,14 +10,14 @@ ghost use Rattle.laws.specs.Choice.{if_then_else_};
 ghost use Rattle.request_guard.specs.Guard as spec;
 ghost use Rattle.request_guard.specs.Guard.{Valid, Kept, saltLimit, salts, remembered, spent, remembering};
 ghost use Rattle.request_guard.specs.Guard.{fresh, noFailures, failedAt, acceptedWith, guardAt, sameSalt};
-ghost use Rattle.request_guard.specs.Guard.{bounded, inUse};
+ghost use Rattle.request_guard.specs.Guard.{bounded, inUse, allSized, sizedSalt, cleanedSalt, saltRoom};
 
 // The most salts that are remembered.
 const LIMIT: usize = 16;
 // The salts that stay when one is forgotten.
 const LAST: usize = LIMIT - 1;
 
-// A request's salt: its first `length` bytes; the others are zero.
+// A request's salt: its first `length` bytes, 2 or 8; the others are zero.
 #[repr(C)]
 pub struct Salt {
     pub length: u8,
@@ -107,11 +107,18 @@ impl Guard {
         self
     }
 
-    // Whether its counts are such as a guard can have: only bytes from elsewhere have others.
+    // Whether a guard can have these counts and salts: only bytes from elsewhere have others.
     pub fn is_bounded(self) -> bool
         ensures { λ r. ⌜ r ≡ bounded self ⌝ }
     {
-        self.spent.count <= LIMIT && self.failures.count <= 10
+        let salts = self.spent;
+        if LIMIT < salts.count {
+            return false;
+        }
+        if 10 < self.failures.count {
+            return false;
+        }
+        salts.are_sized()
     }
 
     // The guard with nothing in the places that are not in use.
@@ -196,20 +203,65 @@ impl SpentSalts {
         rest
     }
 
-    // The salts in use, and nothing in the other places.
-    fn in_use(self) -> SpentSalts
+    // Whether each salt in use has 2 or 8 bytes.
+    fn are_sized(self) -> bool
         requires { ⌜ self .count ≤ saltLimit ⌝ }
+        ensures { λ r. ⌜ r ≡ allSized (inUse self) ⌝ }
+    {
+        let n = self.count;
+        let mut i = 0;
+        while i < n {
+            let s = self.salts[i];
+            if !s.is_sized() {
+                return false;
+            }
+            i += 1;
+        }
+        true
+    }
+
+    // The salts in use, cleaned, and nothing in the other places.
+    fn in_use(self) -> SpentSalts
+        requires { ⌜ (self .count ≤ saltLimit) × (allSized (inUse self) ≡ true) ⌝ }
         ensures { λ r. ⌜ r ≡ salts (inUse self) ⌝ }
     {
         let mut rest = SpentSalts::none();
         let n = self.count;
         let mut i = 0;
         while i < n {
-            rest.salts[i] = self.salts[i];
+            let s = self.salts[i];
+            rest.salts[i] = s.cleaned();
             i += 1;
         }
         rest.count = n;
         rest
+    }
+}
+
+impl Salt {
+    // A request's salt has 2 or 8 bytes.
+    fn is_sized(self) -> bool
+        ensures { λ r. ⌜ r ≡ sizedSalt self ⌝ }
+    {
+        self.length == 2 || self.length == 8
+    }
+
+    // The salt with zeros behind its length.
+    fn cleaned(self) -> Salt
+        requires { ⌜ self .length ≤ saltRoom ⌝ }
+        ensures { λ r. ⌜ r ≡ cleanedSalt self ⌝ }
+    {
+        let mut bytes = [0u8; 8];
+        let n = self.length as usize;
+        let mut i = 0;
+        while i < n {
+            bytes[i] = self.bytes[i];
+            i += 1;
+        }
+        Salt {
+            length: self.length,
+            bytes: bytes,
+        }
     }
 }
 

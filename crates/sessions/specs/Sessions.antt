@@ -2,6 +2,7 @@
 -- Assumes nothing.
 use mathlib.Core.Bool.{Bool, true, false}
 use mathlib.Core.List.{[], map}
+use mathlib.Core.Path.{_≡_}
 use Prim.Native.Nat.{ℕ, _-_}
 use lib.Dec.{leb, eqb}
 use lib.ListN.{getD, set, replicate}
@@ -20,14 +21,14 @@ abbrev pub idle : Session
 idle = record { stage = Idle; key = replicate 16 0; since = record { 0 = 0 }; passkey = 0 }
 
 -- what stands past the last link
-abbrev pub nowhere : Session
-nowhere = record { stage = Idle; key = []; since = record { 0 = 0 }; passkey = 0 }
+abbrev pub absentSession : Session
+absentSession = record { stage = Idle; key = []; since = record { 0 = 0 }; passkey = 0 }
 
 abbrev pub allIdle : Sessions
 allIdle = record { links = replicate linkCount idle }
 
 abbrev pub sessionAt : Sessions → ℕ → Session
-sessionAt ss l = getD (ss .links) l nowhere
+sessionAt ss l = getD (ss .links) l absentSession
 
 abbrev pub withSession : Sessions → ℕ → Session → Sessions
 withSession ss l s = record { links = set (ss .links) l s }
@@ -63,3 +64,7 @@ atClock t s = if hasTimer (s .stage) and leb 10000 (t - s .since .0) then idle e
 
 abbrev pub expired : ℕ → Sessions → Sessions
 expired t ss = record { links = map (atClock t) (ss .links) }
+
+-- a session that holds no key holds nothing
+abbrev pub Canonical : Session → Type 0
+Canonical s = s .stage ≡ Idle → s ≡ idle

@@ -3,3 +3,4 @@ pub mod Constants
 pub mod Padding
 pub mod Compression
 pub mod Hash
+pub mod Steps

@@ -9,9 +9,10 @@ use crate::functions::small_sigma0;
 use crate::functions::small_sigma1;
 ghost use mathlib.Core.Path.{_≡_};
 ghost use Prim.Native.Nat.{_+_, _*_, _<_};
-ghost use lib.ListN.{length, take};
-ghost use Rattle.sha256.specs.Padding.{word, words};
+ghost use lib.ListN.{length};
+ghost use Rattle.sha256.specs.Padding.{word};
 ghost use Rattle.sha256.specs.Compression as spec;
+ghost use Rattle.sha256.specs.Steps.{messageWords};
 
 const K: [u32; 64] = [
     0x428a2f98,
@@ -117,10 +118,10 @@ fn schedule(block: &[u8]) -> [u32; 64]
     w
 }
 
-// The block's sixteen words, with room for the rest of the schedule.
+// The block's sixteen words, with room for the words after them.
 fn message_words(block: &[u8]) -> [u32; 64]
     requires { ⌜ length (now block) ≡ 64 ⌝ }
-    ensures { λ r. ⌜ take 16 r ≡ words (now (block .entry)) 16 ⌝ }
+    ensures { λ r. ⌜ r ≡ messageWords (now (block .entry)) ⌝ }
 {
     let mut w = [0u32; 64];
     let mut i = 0;

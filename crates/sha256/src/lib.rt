@@ -3,14 +3,13 @@ mod compression;
 mod functions;
 
 ghost use mathlib.Core.Path.{_≡_};
-ghost use mathlib.Core.List.{_++_};
 ghost use Prim.Native.Nat.{_+_, _*_, _/_, _%_, _^_, _≤_};
-ghost use lib.ListN.{length, take, drop};
+ghost use lib.ListN.{length};
 ghost use lib.Seq.{paste};
 ghost use Rattle.laws.specs.BigEndian.{bytes};
 ghost use Rattle.sha256.specs.Constants.{initialHash};
-ghost use Rattle.sha256.specs.Padding.{padding};
 ghost use Rattle.sha256.specs.Hash.{hashed, joined, sha256};
+ghost use Rattle.sha256.specs.Steps.{lastBlocks};
 
 // The eight words of a hash value, H0 to H7, or of the working variables a to h.
 pub struct Hash {
@@ -24,7 +23,7 @@ pub struct Hash {
     pub h: u32,
 }
 
-// The blocks that hold a message's last bytes and its padding: `bytes[..end]`.
+// The blocks that hold a message's last bytes and its padding: `bytes[..end]`; the other bytes are zero.
 struct LastBlocks {
     bytes: [u8; 128],
     end: usize,
@@ -37,7 +36,7 @@ pub fn digest(msg: &[u8]) -> [u8; 32]
     let n = msg.len();
     let whole = n - n % 64;
     let h = absorb(initial(), msg);
-    let last = ending(&msg[whole..], n);
+    let last = last_blocks(&msg[whole..], n);
     let end = last.end;
     let blocks = last.bytes;
     to_bytes(absorb(h, &blocks[..end]))
@@ -74,10 +73,10 @@ fn absorb(h: Hash, src: &[u8]) -> Hash
     s
 }
 
-// The bytes after a message's last whole block, and the padding of the message's `n` bytes.
-fn ending(rest: &[u8], n: usize) -> LastBlocks
+// `rest`, the bytes after the last whole block of a message of `n` bytes, and the message's padding.
+fn last_blocks(rest: &[u8], n: usize) -> LastBlocks
     requires { ⌜ length (now rest) ≡ n % 64 ⌝ }
-    ensures { λ r. ⌜ (take (r .end) (r .bytes) ≡ now (rest .entry) ++ padding n) × (r .end ≤ 128) ⌝ }
+    ensures { λ r. ⌜ r ≡ lastBlocks (now (rest .entry)) n ⌝ }
 {
     let used = rest.len();
     let end = (used + 72) / 64 * 64;
@@ -117,45 +116,32 @@ fn length_bytes(n: usize) -> [u8; 8]
         ((bits >> 24) % 256) as u8,
         ((bits >> 16) % 256) as u8,
         ((bits >> 8) % 256) as u8,
-        ((bits >> 0) % 256) as u8,
+        (bits % 256) as u8,
     ]
 }
 
+// H0 to H7, one after the other.
 fn to_bytes(s: Hash) -> [u8; 32]
     ensures { λ r. ⌜ r ≡ joined s ⌝ }
 {
-    [
-        ((s.a >> 24) % 256) as u8,
-        ((s.a >> 16) % 256) as u8,
-        ((s.a >> 8) % 256) as u8,
-        ((s.a >> 0) % 256) as u8,
-        ((s.b >> 24) % 256) as u8,
-        ((s.b >> 16) % 256) as u8,
-        ((s.b >> 8) % 256) as u8,
-        ((s.b >> 0) % 256) as u8,
-        ((s.c >> 24) % 256) as u8,
-        ((s.c >> 16) % 256) as u8,
-        ((s.c >> 8) % 256) as u8,
-        ((s.c >> 0) % 256) as u8,
-        ((s.d >> 24) % 256) as u8,
-        ((s.d >> 16) % 256) as u8,
-        ((s.d >> 8) % 256) as u8,
-        ((s.d >> 0) % 256) as u8,
-        ((s.e >> 24) % 256) as u8,
-        ((s.e >> 16) % 256) as u8,
-        ((s.e >> 8) % 256) as u8,
-        ((s.e >> 0) % 256) as u8,
-        ((s.f >> 24) % 256) as u8,
-        ((s.f >> 16) % 256) as u8,
-        ((s.f >> 8) % 256) as u8,
-        ((s.f >> 0) % 256) as u8,
-        ((s.g >> 24) % 256) as u8,
-        ((s.g >> 16) % 256) as u8,
-        ((s.g >> 8) % 256) as u8,
-        ((s.g >> 0) % 256) as u8,
-        ((s.h >> 24) % 256) as u8,
-        ((s.h >> 16) % 256) as u8,
-        ((s.h >> 8) % 256) as u8,
-        ((s.h >> 0) % 256) as u8,
-    ]
+    let a = put_word([0u8; 32], 0, s.a);
+    let b = put_word(a, 4, s.b);
+    let c = put_word(b, 8, s.c);
+    let d = put_word(c, 12, s.d);
+    let e = put_word(d, 16, s.e);
+    let f = put_word(e, 20, s.f);
+    let g = put_word(f, 24, s.g);
+    put_word(g, 28, s.h)
+}
+
+// The four bytes of `x`, put into `out` from `at` on.
+fn put_word(mut out: [u8; 32], at: usize, x: u32) -> [u8; 32]
+    requires { ⌜ at + 4 ≤ 32 ⌝ }
+    ensures { λ r. ⌜ r ≡ paste out at (bytes 4 x) 4 ⌝ }
+{
+    out[at] = ((x >> 24) % 256) as u8;
+    out[at + 1] = ((x >> 16) % 256) as u8;
+    out[at + 2] = ((x >> 8) % 256) as u8;
+    out[at + 3] = (x % 256) as u8;
+    out
 }

@@ -3,12 +3,12 @@ use mathlib.Core.Path.{sym, _∙_}
 use native.Mathlib.Omega.{arith}
 use borrow.Author.Needs.{needs}
 use Rattle.account_keys.proofs.read.Tie as tie
-use Rattle.account_keys.proofs.StoredList.{short, other-length, other-version, too-many, other-size, sizes-agree}
+use Rattle.account_keys.proofs.StoredList.{shorter-than-header, other-length, other-version, too-many-keys, other-size, sizes-agree}
 use Rattle.account_keys.proofs.read.Statement.{statement}
 
 returns : tie.Need-returns
 returns c =
-    c .malformed .ensures ∙ sym (short (c .before .before .before .args .src .now) (c .before .if1 .taken))
+    c .malformed .ensures ∙ sym (shorter-than-header (c .before .before .before .args .src .now) (c .before .if1 .taken))
 
 cast-if2 : tie.Need-cast-if2
 cast-if2 c = omega (arith, c .shared-slice-known2 .given 0)
@@ -24,36 +24,47 @@ add-if2 c = omega (arith, c .before .shared-slice-known2 .given 0, c .shared-sli
 
 returns-2 : tie.Need-returns-2
 returns-2 c =
-    c .malformed2 .ensures ∙ sym
-    (other-length (c .before .before .before .before .before .before .args .src .now)
-    (c .before .before .before .before .if1 .left) (c .before .if2 .taken))
+    let long = c .before .before .before .before in
+    c .malformed2 .ensures ∙ sym (other-length (long .before .before .args .src .now) (long .if1 .left) (c .before .if2 .taken))
 
 returns-3 : tie.Need-returns-3
 returns-3 c =
+    let sized = c .before .before .before in
+    let long = sized .before .before .before in
     c .malformed3 .ensures ∙ sym
-    (other-version (c .before .before .before .before .before .before .before .before .args .src .now)
-    (c .before .before .before .before .before .before .if1 .left) (c .before .before .before .if2 .left)
-    (c .before .if3 .taken))
+    (other-version (long .before .before .args .src .now) (long .if1 .left) (sized .if2 .left) (c .before .if3 .taken))
 
 cast-n : tie.Need-cast-n
 cast-n c = omega (arith, c .shared-slice-known5 .given 3)
 
 returns-4 : tie.Need-returns-4
 returns-4 c =
+    let known = c .before .before .before in
+    let sized = known .before .before in
+    let long = sized .before .before .before in
     c .malformed4 .ensures ∙ sym
-    (too-many (c .before .before .before .before .before .before .before .before .before .before .args .src .now) (c .before .before .before .before .before .before .before .before .if1 .left) (c .before .before .before .before .before .if2 .left) (c .before .before .before .if3 .left) (c .before .if4 .taken))
+    (too-many-keys (long .before .before .args .src .now) (long .if1 .left) (sized .if2 .left) (known .if3 .left)
+    (c .before .if4 .taken))
 
 returns-5 : tie.Need-returns-5
 returns-5 c =
+    let few = c .before .before in
+    let known = few .before .before in
+    let sized = known .before .before in
+    let long = sized .before .before .before in
     c .malformed5 .ensures ∙ sym
-    (other-size
-    (c .before .before .before .before .before .before .before .before .before .before .before .args .src .now) (c .before .before .before .before .before .before .before .before .before .if1 .left) (c .before .before .before .before .before .before .if2 .left) (c .before .before .before .before .if3 .left) (c .before .before .if4 .left) (c .before .if5 .taken))
+    (other-size (long .before .before .args .src .now) (long .if1 .left) (sized .if2 .left) (known .if3 .left) (few .if4 .left)
+    (c .before .if5 .taken))
 
 returns-6 : tie.Need-returns-6
 returns-6 c =
+    let few = c .before .before in
+    let known = few .before .before in
+    let sized = known .before .before in
+    let long = sized .before .before .before in
     c .read-keys .ensures ∙ sym
-    (sizes-agree
-    (c .before .before .before .before .before .before .before .before .before .before .before .args .src .now) (c .before .before .before .before .before .before .before .before .before .if1 .left) (c .before .before .before .before .before .before .if2 .left) (c .before .before .before .before .if3 .left) (c .before .before .if4 .left) (c .before .if5 .left))
+    (sizes-agree (long .before .before .args .src .now) (long .if1 .left) (sized .if2 .left) (known .if3 .left) (few .if4 .left)
+    (c .before .if5 .left))
 
 pub read-spec : {M : Type 1} → statement M
 read-spec =

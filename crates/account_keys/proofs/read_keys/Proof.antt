@@ -13,8 +13,8 @@ use Rattle.account_keys.specs.declared.AccountKeys.{AccountKeys}
 use Rattle.account_keys.specs.declared.ListForm.the-variants.{WellFormed}
 use Rattle.account_keys.specs.declared.Reading.{Reading}
 use Rattle.account_keys.proofs.read_keys.Tie as tie
-use Rattle.account_keys.proofs.Laws.{kept-kept}
-use Rattle.account_keys.proofs.StoredList.{asked, added, refused, strange, twice, fresh, accepted, keys-long}
+use Rattle.account_keys.proofs.Laws.{Kept-kept}
+use Rattle.account_keys.proofs.StoredList.{member-keysIn, kept-keysIn, reading-refused, owned-wrong-first, owned-twice, owned-next, reading-owned, length-keysIn}
 use Rattle.account_keys.proofs.read_keys.Statement.{statement}
 
 abbrev Inv-loop : tie.InvT-loop
@@ -32,90 +32,74 @@ sixteen-requires c κs = omega (arith, c .before .before .before .before .pre .1
 
 returns : tie.Need-returns Inv-loop μ-loop
 returns c =
-    c .malformed .ensures ∙ sym
-    (refused (c .before .before .before .before .before .before .before .args .src .now)
-    ((c .before .before .before .before .loop .i) + 1)
-    (c .before .before .before .before .before .before .before .args .n) (omega arith)
-    (strange (c .before .before .before .before .before .before .before .args .src .now)
-    (c .before .before .before .before .loop .i) (λ e. c .before .if1 .taken
-    (ap (λ (l : List ℕ). getD l 0 0) (c .before .before .sixteen .ensures) ∙ e))))
+    let read = c .before .before in
+    let turn = read .before .before in
+    let given = turn .before .before .before .args in
+    let i = turn .loop .i in
+    c .malformed .ensures ∙ sym (reading-refused (given .src .now) (i + 1) (given .n) (omega arith)
+    (owned-wrong-first (given .src .now) i
+    (λ e. c .before .if1 .taken (ap (λ (l : List ℕ). getD l 0 0) (read .sixteen .ensures) ∙ e))))
 
 holds-requires : tie.Need-holds-requires Inv-loop μ-loop
 holds-requires c κs =
-    rw (c .before .before .before .loop .inv .1) (kept-kept (keysIn
-    (c .before .before .before .before .before .before .args .src .now) (c .before .before .before .loop .i))
-    (omega (
-      arith,
-      c .before .before .before .before .before .before .pre .0,
-      keys-long
-          (c .before .before .before .before .before .before .args .src .now) (c .before .before .before .loop .i),
-    )))
+    let turn = c .before .before .before in
+    let start = turn .before .before .before in
+    let src = start .args .src .now in
+    rw (turn .loop .inv .1) (Kept-kept (keysIn src (turn .loop .i))
+    (omega (arith, start .pre .0, length-keysIn src (turn .loop .i))))
 
 returns-2 : tie.Need-returns-2 Inv-loop μ-loop
 returns-2 c =
-    c .malformed2 .ensures ∙ sym
-    (refused (c .before .before .before .before .before .before .before .before .before .args .src .now)
-    ((c .before .before .before .before .before .before .loop .i) + 1)
-    (c .before .before .before .before .before .before .before .before .before .args .n) (omega arith)
-    (twice (c .before .before .before .before .before .before .before .before .before .args .src .now)
-    (c .before .before .before .before .before .before .loop .i)
-    (asked (c .before .before .before .before .before .before .before .before .before .args .src .now)
-    (c .before .before .before .before .before .before .loop .i)
-    (c .before .before .before .before .before .before .loop .inv .1)
-    (c .before .before .before .before .sixteen .ensures) (c .before .before .holds .ensures)
+    let read = c .before .before .before .before in
+    let turn = read .before .before in
+    let given = turn .before .before .before .args in
+    let src = given .src .now in
+    let i = turn .loop .i in
+    c .malformed2 .ensures ∙ sym (reading-refused src (i + 1) (given .n) (omega arith)
+    (owned-twice src i (member-keysIn src i (turn .loop .inv .1) (read .sixteen .ensures) (c .before .before .holds .ensures)
     (c .before .if2 .taken))))
 
 push-requires : tie.Need-push-requires Inv-loop μ-loop
-push-requires c κs = (
-  rw (c .before .before .before .before .before .loop .inv .1)
-      (kept-kept (keysIn (c .before .before .before .before .before .before .before .before .args .src .now)
-      (c .before .before .before .before .before .loop .i)) (omega (
+push-requires c κs =
+    let taken = c .before .before .before .before in
+    let turn = taken .before in
+    let start = turn .before .before .before in
+    let src = start .args .src .now in
+    let i = turn .loop .i in
+    let few = start .pre .0 in (
+      rw (turn .loop .inv .1) (Kept-kept (keysIn src i) (omega (arith, few, length-keysIn src i))),
+      omega (
         arith,
-        c .before .before .before .before .before .before .before .before .pre .0,
-        keys-long
-            (c .before .before .before .before .before .before .before .before .args .src .now)
-            (c .before .before .before .before .before .loop .i),
-      ))),
-  omega (
-    arith,
-    c .before .before .before .before .before .before .before .before .pre .0,
-    c .before .before .before .before .loop-test .taken,
-    ap (λ (x : AccountKeys). x .count)
-        (c .before .before .before .before .before .loop .inv .1),
-    keys-long
-        (c .before .before .before .before .before .before .before .before .args .src .now)
-        (c .before .before .before .before .before .loop .i),
-  ),
-)
+        few,
+        taken .loop-test .taken,
+        ap (λ (x : AccountKeys). x .count) (turn .loop .inv .1),
+        length-keysIn src i,
+      ),
+    )
 
 loop-again : tie.Need-loop-again Inv-loop μ-loop
-loop-again c = (
-  search needs,
-  added
-      (c .before .before .before .before .before .before .before .before .before .args .src .now)
-      (c .before .before .before .before .before .before .loop .i)
-      (c .before .before .before .before .before .before .loop .inv .1)
-      (c .before .before .before .before .sixteen .ensures) (c .push .ensures),
-  fresh
-      (c .before .before .before .before .before .before .before .before .before .args .src .now)
-      (c .before .before .before .before .before .before .loop .i)
-      (c .before .before .before .before .before .before .loop .inv .2)
-      (sym (ap (λ (l : List ℕ). getD l 0 0) (c .before .before .before .before .sixteen .ensures))
-      ∙ c .before .before .before .if1 .left)
-      (asked (c .before .before .before .before .before .before .before .before .before .args .src .now)
-      (c .before .before .before .before .before .before .loop .i)
-      (c .before .before .before .before .before .before .loop .inv .1)
-      (c .before .before .before .before .sixteen .ensures) (c .before .before .holds .ensures)
-      (c .before .if2 .left)),
-)
+loop-again c =
+    let first = c .before .before .before in
+    let read = first .before in
+    let turn = read .before .before in
+    let src = turn .before .before .before .args .src .now in
+    let i = turn .loop .i in
+    let keys = turn .loop .inv .1 in
+    let block = read .sixteen .ensures in (
+      search needs,
+      kept-keysIn src i keys block (c .push .ensures),
+      owned-next src i (turn .loop .inv .2) (sym (ap (λ (l : List ℕ). getD l 0 0) block) ∙ first .if1 .left)
+          (member-keysIn src i keys block (c .before .before .holds .ensures) (c .before .if2 .left)),
+    )
 
 returns-3 : tie.Need-returns-3 Inv-loop μ-loop
 returns-3 c =
-    at-limit (λ k. _≡_ {A = Reading} (record { form = WellFormed; keys = c .before .loop .keys })
-    (readingOf (keysIn (c .before .before .before .before .args .src .now) k))) (c .before .loop .inv .0)
-    (c .loop-test .left) ((λ j. record { form = WellFormed; keys = c .before .loop .inv .1 j }) ∙ sym
-    (accepted (keysIn (c .before .before .before .before .args .src .now) (c .before .loop .i))
-    (c .before .loop .inv .2)))
+    let end = c .before in
+    let src = end .before .before .before .args .src .now in
+    at-limit (λ k. _≡_ {A = Reading} (record { form = WellFormed; keys = end .loop .keys }) (readingOf (keysIn src k)))
+    (end .loop .inv .0) (c .loop-test .left)
+    ((λ j. record { form = WellFormed; keys = end .loop .inv .1 j }) ∙ sym
+    (reading-owned (keysIn src (end .loop .i)) (end .loop .inv .2)))
 
 pub read-keys-spec : {M : Type 1} → statement M
 read-keys-spec =

@@ -2,7 +2,7 @@
 use native.Mathlib.Omega.{arith}
 use lib.ListN.{length-set}
 use borrow.Author.Needs.{needs}
-use Rattle.laws.proofs.Lists.{front4}
+use Rattle.laws.proofs.Lists.{set4-front}
 use Rattle.advertising.proofs.begin.Tie as tie
 use Rattle.advertising.proofs.begin.Statement.{statement}
 
@@ -13,7 +13,7 @@ slice-write-out-3 : tie.Need-slice-write-out-3
 slice-write-out-3 c = simp length-set (omega (arith, c .pre))
 
 returns : tie.Need-returns
-returns c = front4 (c .args .out .now) (c .args .rest) 0x16 0x2C 0xFE (c .pre)
+returns c = set4-front (c .args .out .now) (c .args .rest) 0x16 0x2C 0xFE (c .pre)
 
 pub begin-spec : {M : Type 1} → statement M
 begin-spec =

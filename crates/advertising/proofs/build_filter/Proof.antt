@@ -9,8 +9,8 @@ use Rattle.laws.proofs.Loops.{at-limit}
 use Rattle.account_keys.specs.Keys.{held}
 use Rattle.advertising.specs.Filter.{filterSize, withKey}
 use Rattle.advertising.proofs.build_filter.Tie as tie
-use Rattle.account_keys.proofs.Laws.{room}
-use Rattle.advertising.proofs.Laws.{keys-all, keys-more}
+use Rattle.account_keys.proofs.Laws.{length-keys}
+use Rattle.advertising.proofs.Laws.{withKey-all, withKey-more}
 use Rattle.advertising.proofs.build_filter.Statement.{statement}
 
 abbrev Inv-loop : tie.InvT-loop
@@ -32,27 +32,26 @@ loop-holds c =
     )
 
 set-bits-requires : tie.Need-set-bits-requires Inv-loop μ-loop
-set-bits-requires c κs = (
-  omega (arith, c .before .before .before .before .before .loop .inv .2),
-  omega (
-    arith,
-    c .before .before .before .before .before .loop .inv .2,
-    c .before .before .before .before .before .before .before .before .before .before .before .pre .0 .few,
-  ),
-)
+set-bits-requires c κs =
+    let turn = c .before .before .before .before .before in
+    let start = turn .before .before .before .before .before .before in
+    let size = turn .loop .inv .2 in
+    (omega (arith, size), omega (arith, size, start .pre .0 .few))
 
 loop-again : tie.Need-loop-again Inv-loop μ-loop
 loop-again c =
-    let at = c .before .before .before .before .before .before .before .before in
-    let start = at .before .before .before .before .before .before in
-    let size = filterSize (start .args .t2 .count) in (
+    let taken = c .before .before .before .before .before .before .before in
+    let turn = taken .before in
+    let start = turn .before .before .before .before .before .before in
+    let ks = start .args .t2 in
+    let size = filterSize (ks .count) in
+    let bits = c .before .before .set-bits in (
       search needs,
-      at .loop .inv .1,
-      c .before .before .set-bits .kept .0 ∙ at .loop .inv .2,
-      keys-more size (start .args .salt) (replicate size 0) (start .args .t2 .keys) (start .args .t2 .count)
-          (at .loop .i) (c .before .before .before .before .before .before .before .loop-test .taken)
-          (omega (arith, start .pre .0 .few, room (start .args .t2) (start .pre .0))) (at .loop .inv .3)
-          (at .loop .inv .2) (c .before .before .before .salted-hash .ensures) (c .before .before .set-bits .ensures),
+      turn .loop .inv .1,
+      bits .kept .0 ∙ turn .loop .inv .2,
+      withKey-more size (start .args .salt) (replicate size 0) (ks .keys) (ks .count) (turn .loop .i) (taken .loop-test .taken)
+          (omega (arith, start .pre .0 .few, length-keys ks (start .pre .0))) (turn .loop .inv .3) (turn .loop .inv .2)
+          (c .before .before .before .salted-hash .ensures) (bits .ensures),
     )
 
 same-length : tie.Need-same-length Inv-loop μ-loop
@@ -61,11 +60,12 @@ same-length c =
 
 returns : tie.Need-returns Inv-loop μ-loop
 returns c =
-    let start = c .before .before .before .before .before .before .before in
-    let size = filterSize (start .args .t2 .count) in
-    at-limit (λ k. c .before .loop .out ≡ foldl (withKey size (start .args .salt)) (replicate size 0)
-    (take k (held (start .args .t2)))) (c .before .loop .inv .0) (c .loop-test .left) (c .before .loop .inv .3)
-    ∙ keys-all (start .args .t2) (start .pre .0) (start .args .salt)
+    let end = c .before in
+    let start = end .before .before .before .before .before .before in
+    let ks = start .args .t2 in
+    let size = filterSize (ks .count) in
+    at-limit (λ k. end .loop .out ≡ foldl (withKey size (start .args .salt)) (replicate size 0) (take k (held ks)))
+    (end .loop .inv .0) (c .loop-test .left) (end .loop .inv .3) ∙ withKey-all ks (start .pre .0) (start .args .salt)
 
 pub build-filter-spec : {M : Type 1} → statement M
 build-filter-spec =

@@ -4,7 +4,7 @@ use mathlib.Core.Path.{refl}
 use borrow.Author.Needs.{needs}
 use Rattle.advertising.specs.Payload.{structure}
 use Rattle.advertising.proofs.empty_payload.Tie as tie
-use Rattle.advertising.proofs.Texts.{behind-header}
+use Rattle.advertising.proofs.Structure.{structure-stored}
 use Rattle.advertising.proofs.empty_payload.Statement.{statement}
 use Rattle.basics.proofs.Lent.{left-alone}
 
@@ -15,9 +15,10 @@ returns c =
 
 returns-2 : tie.Need-returns-2
 returns-2 c =
-    behind-header (c .before .before .before .before .before .before .before .args .out .now) (0 ∷ 0 ∷ [])
-    (0 ∷ 0 ∷ []) refl (c .before .before .before .begin .ensures) (c .written .ensures) refl refl
-    (c .before .before .before .before .before .if1 .left)
+    let begun = c .before .before .before in
+    let room = begun .before .before in
+    structure-stored (room .before .before .args .out .now) (0 ∷ 0 ∷ []) (0 ∷ 0 ∷ []) refl (begun .begin .ensures)
+    (c .written .ensures) refl refl (room .if1 .left)
 
 pub empty-payload-spec : {M : Type 1} → statement M
 empty-payload-spec =

@@ -5,38 +5,33 @@ use native.Mathlib.Omega.{arith}
 use lib.ListN.{length-set}
 use borrow.Author.Needs.{needs}
 use Rattle.advertising.proofs.keys_payload.Tie as tie
-use Rattle.advertising.proofs.Texts.{no-room, has-room, lent-long, prompt-small}
+use Rattle.advertising.proofs.Structure.{structure-no-room, structure-written, length-lent, promptType-small}
 use Rattle.advertising.proofs.keys_payload.Statement.{statement}
 
 returns : tie.Need-returns
 returns c =
     let start = c .before .before .before .before in
-    no-room (start .args .keys) (start .pre) (start .args .salt) (search needs) (start .args .prompt)
+    structure-no-room (start .args .keys) (start .pre) (start .args .salt) (search needs) (start .args .prompt)
     (start .args .out .now) (c .before .before .filter-size .ensures) (c .before .if1 .taken)
     (c .too-short .ensures)
 
 add-out : tie.Need-add-out
 add-out c =
-    let start = c .before .before .before .before .before .before .before .before in
-    omega (arith, prompt-small (start .args .prompt), c .prompt-type .ensures, c .before .before .before .before .before .before .filter-size .ensures, start .pre .few)
+    let size = c .before .before .before .before .before .before in
+    let start = size .before .before in
+    omega (arith, promptType-small (start .args .prompt), c .prompt-type .ensures, size .filter-size .ensures, start .pre .few)
 
 slice-write-out-2 : tie.Need-slice-write-out-2
 slice-write-out-2 c =
-    simp length-set (omega (
-      arith,
-      c .before .before .before .before .before .if1 .left,
-      c .before .before .before .begin .kept .0,
-      c .before .before .before .before .before .before .filter-size .ensures,
-    ))
+    let begun = c .before .before .before in
+    let room = begun .before .before in
+    simp length-set (omega (arith, room .if1 .left, begun .begin .kept .0, room .before .filter-size .ensures))
 
 part-build-filter-end : tie.Need-part-build-filter-end
 part-build-filter-end c =
-    simp length-set (omega (
-      arith,
-      c .before .before .before .before .before .if1 .left,
-      c .before .before .before .begin .kept .0,
-      c .before .before .before .before .before .before .filter-size .ensures,
-    ))
+    let begun = c .before .before .before in
+    let room = begun .before .before in
+    simp length-set (omega (arith, room .if1 .left, begun .begin .kept .0, room .before .filter-size .ensures))
 
 put-salt-requires : tie.Need-put-salt-requires
 put-salt-requires c κs =
@@ -44,7 +39,7 @@ put-salt-requires c κs =
     let begun = built .before .before .before .before .before in
     let size = begun .before .before .before .filter-size in
     let start = begun .before .before .before .before .before in
-    let e = lent-long (start .args .out .now) (begun .begin .last .0) (built .build-filter .last .0) 0
+    let e = length-lent (start .args .out .now) (begun .begin .last .0) (built .build-filter .last .0) 0
     (size .result * 16 + built .before .before .prompt-type .result) (6 + size .result - 6) (begun .begin .kept .0)
     (built .build-filter .kept .0) in
     omega (arith, begun .before .before .if1 .left)
@@ -55,7 +50,7 @@ same-length c =
     let begun = built .before .before .before .before .before in
     let size = begun .before .before .before .filter-size in
     let start = begun .before .before .before .before .before in
-    let e = lent-long (start .args .out .now) (begun .begin .last .0) (built .build-filter .last .0) 0
+    let e = length-lent (start .args .out .now) (begun .begin .last .0) (built .build-filter .last .0) 0
     (size .result * 16 + built .before .before .prompt-type .result) (6 + size .result - 6) (begun .begin .kept .0)
     (built .build-filter .kept .0) in
     c .before .before .before .put-salt .kept .0 ∙ e
@@ -66,7 +61,7 @@ returns-2 c =
     let begun = built .before .before .before .before .before in
     let size = begun .before .before .before .filter-size in
     let start = begun .before .before .before .before .before in
-    has-room (start .args .keys) (start .pre) (start .args .salt) (search needs) (start .args .prompt)
+    structure-written (start .args .keys) (start .pre) (start .args .salt) (search needs) (start .args .prompt)
     (start .args .out .now) (size .ensures) (begun .before .before .if1 .left) (begun .begin .ensures)
     (built .before .before .prompt-type .ensures) (built .build-filter .ensures)
     (c .before .before .before .put-salt .ensures) (c .written .ensures)

@@ -3,19 +3,19 @@ use mathlib.Core.Path.{_≡_, refl}
 use native.Mathlib.Omega.{arith}
 use lib.ListN.{length, getD, length-set}
 use borrow.Author.Needs.{needs}
-use Rattle.laws.proofs.Filled.{listed}
+use Rattle.laws.proofs.Filled.{tabulate-getD}
 use Rattle.laws.specs.Tabulate.{tabulate}
 use Rattle.advertising.specs.Payload.{structure}
 use Rattle.advertising.proofs.model_payload.Tie as tie
-use Rattle.advertising.proofs.Texts.{behind-header}
+use Rattle.advertising.proofs.Structure.{structure-stored}
 use Rattle.advertising.proofs.model_payload.Statement.{statement}
 use Rattle.basics.proofs.Lent.{left-alone}
 
 returns : tie.Need-returns
 returns c =
-    let h : length (c .before .before .before .args .t1) ≡ 3 = search needs in left-alone
-    (structure (c .before .before .before .args .t1)) (c .before .before .before .args .out .now)
-    (omega (arith, c .before .if1 .taken)) (c .too-short .ensures)
+    let given = c .before .before .before .args in
+    let long : length (given .t1) ≡ 3 = search needs in
+    left-alone (structure (given .t1)) (given .out .now) (omega (arith, c .before .if1 .taken)) (c .too-short .ensures)
 
 slice-write-out-2 : tie.Need-slice-write-out-2
 slice-write-out-2 c =
@@ -35,11 +35,12 @@ slice-write-out-3 c =
 
 returns-2 : tie.Need-returns-2
 returns-2 c =
-    let start = c .before .before .before .before .before .before .before in
-    let h : length (start .args .t1) ≡ 3 = search needs in
-    behind-header (start .args .out .now) (start .args .t1) (tabulate 3 (λ i. getD (start .args .t1) i 0))
-    (listed 3 (start .args .t1) 0 h) (c .before .before .before .begin .ensures) (c .written .ensures) refl refl
-    (c .before .before .before .before .before .if1 .left)
+    let begun = c .before .before .before in
+    let room = begun .before .before in
+    let given = room .before .before .args in
+    let long : length (given .t1) ≡ 3 = search needs in
+    structure-stored (given .out .now) (given .t1) (tabulate 3 (λ i. getD (given .t1) i 0)) (tabulate-getD 3 (given .t1) 0 long)
+    (begun .begin .ensures) (c .written .ensures) refl refl (room .if1 .left)
 
 pub model-payload-spec : {M : Type 1} → statement M
 model-payload-spec =

@@ -1,29 +1,35 @@
 -- The three cases of the service data.
 use borrow.Author.Needs.{needs}
 use Rattle.advertising.proofs.payload.Tie as tie
-use Rattle.advertising.proofs.Texts.{sent-as, in-pairing, with-none, with-keys}
+use Rattle.advertising.proofs.Structure.{sent-as, payload-in-pairing, payload-no-keys, payload-keys}
 use Rattle.advertising.proofs.payload.Statement.{statement}
 
 returns : tie.Need-returns
 returns c =
-    let start = c .before .before .before .before .before .before in
-    sent-as (start .args .out .now)
-    (in-pairing (start .args .pairing) (start .args .model) (start .args .keys) (start .pre) (start .args .salt)
-    (start .args .prompt) (c .before .before .before .before .if1 .taken)) (c .before .before .model-payload .ensures)
+    let asked = c .before .before .before .before in
+    let start = asked .before .before in
+    let given = start .args in
+    sent-as (given .out .now)
+    (payload-in-pairing (given .pairing) (given .model) (given .keys) (start .pre) (given .salt) (given .prompt)
+    (asked .if1 .taken)) (c .before .before .model-payload .ensures)
 
 returns-2 : tie.Need-returns-2
 returns-2 c =
-    let start = c .before .before .before .before .before .before .before in
-    sent-as (start .args .out .now)
-    (with-none (start .args .pairing) (start .args .model) (start .args .keys) (start .pre) (start .args .salt)
-    (start .args .prompt) (c .before .before .before .before .before .if1 .left) (c .before .before .before .before .if2 .taken)) (c .before .before .empty-payload .ensures)
+    let counted = c .before .before .before .before in
+    let start = counted .before .before .before in
+    let given = start .args in
+    sent-as (given .out .now)
+    (payload-no-keys (given .pairing) (given .model) (given .keys) (start .pre) (given .salt) (given .prompt)
+    (counted .before .if1 .left) (counted .if2 .taken)) (c .before .before .empty-payload .ensures)
 
 returns-3 : tie.Need-returns-3
 returns-3 c =
-    let start = c .before .before .before .before .before .before .before in
-    sent-as (start .args .out .now)
-    (with-keys (start .args .pairing) (start .args .model) (start .args .keys) (start .pre) (start .args .salt)
-    (start .args .prompt) (c .before .before .before .before .before .if1 .left) (c .before .before .before .before .if2 .left)) (c .before .before .keys-payload .ensures)
+    let counted = c .before .before .before .before in
+    let start = counted .before .before .before in
+    let given = start .args in
+    sent-as (given .out .now)
+    (payload-keys (given .pairing) (given .model) (given .keys) (start .pre) (given .salt) (given .prompt)
+    (counted .before .if1 .left) (counted .if2 .left)) (c .before .before .keys-payload .ensures)
 
 pub payload-spec : {M : Type 1} → statement M
 payload-spec =

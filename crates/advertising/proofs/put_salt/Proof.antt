@@ -3,7 +3,7 @@ use native.Mathlib.Omega.{arith}
 use lib.ListN.{length-set}
 use borrow.Author.Needs.{needs}
 use Rattle.advertising.proofs.put_salt.Tie as tie
-use Rattle.advertising.proofs.Texts.{salt-stored}
+use Rattle.advertising.proofs.Structure.{salt-stored}
 use Rattle.advertising.proofs.put_salt.Statement.{statement}
 
 slice-write-out-2 : tie.Need-slice-write-out-2

@@ -8,9 +8,10 @@ use Rattle.advertising.proofs.salted_hash.Statement.{statement}
 
 returns : tie.Need-returns
 returns c =
-    c .digest .ensures ∙ ap sha256 (rw (c .before .before .before .put .ensures)
-    (key-and-salt (c .before .before .before .before .before .args .key)
-    (c .before .before .before .before .before .args .t2) (search needs) (search needs)))
+    let stored = c .before .before .before in
+    let given = stored .before .before .args in
+    c .digest .ensures ∙ ap sha256 (rw (stored .put .ensures)
+    (key-and-salt (given .key) (given .t2) (search needs) (search needs)))
 
 pub salted-hash-spec : {M : Type 1} → statement M
 salted-hash-spec =

@@ -8,7 +8,7 @@ use borrow.Author.Needs.{needs}
 use Rattle.laws.proofs.Loops.{at-limit}
 use Rattle.advertising.specs.Filter.{withNumber, numbers}
 use Rattle.advertising.proofs.set_bits.Tie as tie
-use Rattle.advertising.proofs.Laws.{place-within, all-numbers, bits-more}
+use Rattle.advertising.proofs.Laws.{place-within, take-numbers, withNumber-more}
 use Rattle.advertising.proofs.set_bits.Statement.{statement}
 
 abbrev Inv-loop : tie.InvT-loop
@@ -24,39 +24,36 @@ loop-holds c = (search needs, refl, refl, refl)
 
 slice-read-out : tie.Need-slice-read-out Inv-loop μ-loop
 slice-read-out c =
-    let start = c .before .before .before .before .before in
-    omega
-    (arith, place-within (c .before .number-at .result) (length (start .args .out .now)) (start .pre .0), c .before .before .before .loop .inv .2)
+    let turn = c .before .before .before in
+    let start = turn .before .before in
+    omega (arith, place-within (c .before .number-at .result) (length (start .args .out .now)) (start .pre .0), turn .loop .inv .2)
 
 slice-write-out : tie.Need-slice-write-out Inv-loop μ-loop
 slice-write-out c =
-    let start = c .before .before .before .before .before in
-    omega
-    (arith, place-within (c .before .number-at .result) (length (start .args .out .now)) (start .pre .0), c .before .before .before .loop .inv .2)
+    let turn = c .before .before .before in
+    let start = turn .before .before in
+    omega (arith, place-within (c .before .number-at .result) (length (start .args .out .now)) (start .pre .0), turn .loop .inv .2)
 
 loop-again : tie.Need-loop-again Inv-loop μ-loop
-loop-again c = (
-  search needs,
-  c .before .before .before .loop .inv .1,
-  simp length-set
-      (c .before .before .before .loop .inv .2),
-  bits-more (length
-      (c .before .before .before .before .before .args .out .now))
-      (c .before .before .before .before .before .args .out .now)
-      (c .before .before .before .before .before .args .hash) (c .before .before .before .loop .i)
-      (c .before .before .loop-test .taken) (c .before .before .before .loop .inv .3)
-      (c .before .number-at .ensures),
-)
+loop-again c =
+    let turn = c .before .before .before in
+    let given = turn .before .before .args in (
+      search needs,
+      turn .loop .inv .1,
+      simp length-set (turn .loop .inv .2),
+      withNumber-more (length (given .out .now)) (given .out .now) (given .hash) (turn .loop .i)
+          (c .before .before .loop-test .taken) (turn .loop .inv .3) (c .before .number-at .ensures),
+    )
 
 same-length : tie.Need-same-length Inv-loop μ-loop
 same-length c = c .before .loop .inv .2
 
 returns : tie.Need-returns Inv-loop μ-loop
 returns c =
-    at-limit (λ k. c .before .loop .out ≡ foldl (withNumber (length
-    (c .before .before .before .args .out .now))) (c .before .before .before .args .out .now)
-    (take k (numbers (c .before .before .before .args .hash)))) (c .before .loop .inv .0) (c .loop-test .left)
-    (c .before .loop .inv .3) ∙ rw (all-numbers (c .before .before .before .args .hash))
+    let end = c .before in
+    let given = end .before .before .args in
+    at-limit (λ k. end .loop .out ≡ foldl (withNumber (length (given .out .now))) (given .out .now) (take k (numbers (given .hash))))
+    (end .loop .inv .0) (c .loop-test .left) (end .loop .inv .3) ∙ rw (take-numbers (given .hash))
 
 pub set-bits-spec : {M : Type 1} → statement M
 set-bits-spec =

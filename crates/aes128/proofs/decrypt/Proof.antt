@@ -19,34 +19,23 @@ loop-holds : tie.Need-loop-holds Inv-loop μ-loop
 loop-holds c = (search needs, refl)
 
 loop-again : tie.Need-loop-again Inv-loop μ-loop
-loop-again c = (
-  search needs,
-  invRounds-more
-      (c .before .before .before .before .before .before .before .before .before .key-expansion .result)
-      (c .before .before .before .before .before .before .loop .i)
-      (c .before .before .before .before .before .before .loop .s)
-      (omega arith)
-      (c .before .before .before .before .before .before .loop .inv .1)
-      (c .before .before .before .inv-shift-rows .ensures)
-      (c .before .before .inv-sub-bytes .ensures)
-      (c .before .add-round-key2 .ensures)
-      (c .inv-mix-columns .ensures),
-)
+loop-again c =
+    let turn = c .before .before .before .before .before .before in (
+      search needs,
+      invRounds-more (turn .before .before .before .key-expansion .result) (turn .loop .i) (turn .loop .s) (omega arith)
+          (turn .loop .inv .1) (c .before .before .before .inv-shift-rows .ensures)
+          (c .before .before .inv-sub-bytes .ensures) (c .before .add-round-key2 .ensures) (c .inv-mix-columns .ensures),
+    )
 
 returns : tie.Need-returns Inv-loop μ-loop
 returns c =
-    invCipher-made
-    (c .before .before .before .before .before .before .before .before .before .args .key)
-    (c .before .before .before .before .before .before .before .before .before .args .block)
-    (c .before .before .before .before .before .loop .i)
-    (c .before .before .before .before .before .loop .s)
-    (c .before .before .before .before .before .before .before .before .key-expansion .ensures)
-    (c .before .before .before .before .before .before .add-round-key .ensures)
-    (c .before .before .before .before .before .loop .inv .1)
-    (omega arith)
-    (c .before .before .inv-shift-rows2 .ensures)
-    (c .before .inv-sub-bytes2 .ensures)
-    (c .add-round-key3 .ensures)
+    let end = c .before .before .before .before .before in
+    let last = end .before in
+    let keys = last .before .before in
+    let given = keys .before .args in
+    invCipher-made (given .key) (given .block) (end .loop .i) (end .loop .s) (keys .key-expansion .ensures)
+    (last .add-round-key .ensures) (end .loop .inv .1) (omega arith) (c .before .before .inv-shift-rows2 .ensures)
+    (c .before .inv-sub-bytes2 .ensures) (c .add-round-key3 .ensures)
 
 pub decrypt-spec : {M : Type 1} → statement M
 decrypt-spec =

@@ -4,7 +4,7 @@ use mathlib.Core.Path.{refl}
 use Prim.Native.Nat.{_-_}
 use native.Mathlib.Omega.{arith}
 use lib.ListN.{getD}
-use Rattle.laws.proofs.Filled.{Filled, none, more, whole}
+use Rattle.laws.proofs.Filled.{Filled, filled-none, filled-set, filled-all}
 use Rattle.aes128.specs.Field.{xTimes}
 use Rattle.aes128.specs.Steps.{doubled}
 use borrow.Author.Needs.{needs}
@@ -18,14 +18,14 @@ abbrev μ-loop : tie.MeasureT-loop
 μ-loop s r₀ i₀ r i = 16 - i
 
 loop-holds : tie.Need-loop-holds Inv-loop μ-loop
-loop-holds c = none refl
+loop-holds c = filled-none refl
 
 loop-again : tie.Need-loop-again Inv-loop μ-loop
-loop-again c = more (c .before .before .loop .inv) (c .before .loop-test .taken) (c .double .ensures)
+loop-again c = filled-set (c .before .before .loop .inv) (c .before .loop-test .taken) (c .double .ensures)
 
 returns : tie.Need-returns Inv-loop μ-loop
 unfolding doubled
-returns c = whole (c .before .loop .inv) (omega arith)
+returns c = filled-all (c .before .loop .inv) (omega arith)
 
 pub double-all-spec : {M : Type 1} → statement M
 double-all-spec =

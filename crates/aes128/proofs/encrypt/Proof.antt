@@ -20,31 +20,23 @@ unfolding rounds
 loop-holds c = (search needs, refl)
 
 loop-again : tie.Need-loop-again Inv-loop μ-loop
-loop-again c = (
-  search needs,
-  rounds-more
-      (c .before .before .before .before .before .before .before .before .before .key-expansion .result)
-      (c .before .before .before .before .before .before .before .add-round-key .result)
-      (c .before .before .before .before .before .before .loop .i)
-      (c .before .before .before .before .before .before .loop .inv .1)
-      (c .before .before .before .sub-bytes .ensures)
-      (c .before .before .shift-rows .ensures)
-      (c .before .mix-columns .ensures)
-      (c .add-round-key2 .ensures),
-)
+loop-again c =
+    let turn = c .before .before .before .before .before .before in
+    let first = turn .before in (
+      search needs,
+      rounds-more (first .before .before .key-expansion .result) (first .add-round-key .result) (turn .loop .i)
+          (turn .loop .inv .1) (c .before .before .before .sub-bytes .ensures) (c .before .before .shift-rows .ensures)
+          (c .before .mix-columns .ensures) (c .add-round-key2 .ensures),
+    )
 
 returns : tie.Need-returns Inv-loop μ-loop
 returns c =
-    cipher-made
-    (c .before .before .before .before .before .before .before .before .before .args .key)
-    (c .before .before .before .before .before .before .before .before .before .args .block)
-    (c .before .before .before .before .before .loop .i)
-    (c .before .before .before .before .before .before .before .before .key-expansion .ensures)
-    (c .before .before .before .before .before .before .add-round-key .ensures)
-    (c .before .before .before .before .before .loop .inv .1)
-    (omega arith)
-    (c .before .before .sub-bytes2 .ensures)
-    (c .before .shift-rows2 .ensures)
+    let end = c .before .before .before .before .before in
+    let first = end .before in
+    let keys = first .before .before in
+    let given = keys .before .args in
+    cipher-made (given .key) (given .block) (end .loop .i) (keys .key-expansion .ensures) (first .add-round-key .ensures)
+    (end .loop .inv .1) (omega arith) (c .before .before .sub-bytes2 .ensures) (c .before .shift-rows2 .ensures)
     (c .add-round-key3 .ensures)
 
 pub encrypt-spec : {M : Type 1} → statement M

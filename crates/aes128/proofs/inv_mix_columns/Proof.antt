@@ -7,20 +7,21 @@ use Rattle.aes128.proofs.inv_mix_columns.Tie as tie
 
 returns : tie.Need-returns
 returns c =
+    let ten = c .before .before .before .before .before in
+    let eight = ten .before .before in
+    let four = eight .before in
+    let two = four .before in
     rw (
-      c .turned-sum .ensures,
+      c .rotated-sum .ensures,
       c .before .xor6 .ensures,
       c .before .before .xor5 .ensures,
       c .before .before .before .xor4 .ensures,
       c .before .before .before .before .xor3 .ensures,
-      c .before .before .before .before .before .xor2 .ensures,
-      c .before .before .before .before .before .before .xor .ensures,
+      ten .xor2 .ensures,
+      ten .before .xor .ensures,
     )
-    (invMixColumns-made
-    (c .before .before .before .before .before .before .before .before .before .before .args .s)
-    (c .before .before .before .before .before .before .before .before .before .double-all .ensures)
-    (c .before .before .before .before .before .before .before .before .double-all2 .ensures)
-    (c .before .before .before .before .before .before .before .double-all3 .ensures))
+    (invMixColumns-made (two .before .args .s) (two .double-all .ensures) (four .double-all2 .ensures)
+    (eight .double-all3 .ensures))
 
 pub inv-mix-columns-spec : {M : Type 1} → statement M
 inv-mix-columns-spec =

@@ -3,8 +3,9 @@
 use mathlib.Core.Path.{_∙_}
 use Rattle.aes128.specs.Rounds.{invSubBytes}
 use Rattle.aes128.specs.SBox.{invSBox}
+use Rattle.aes128.specs.Tables.{invSBoxTable}
 use Rattle.aes128.proofs.Laws.{substituted-by}
-use Rattle.aes128.proofs.SBox.{invSBoxTable, invSBox-table}
+use Rattle.aes128.proofs.SBox.{follow-the-rule}
 use borrow.Author.Needs.{needs}
 use Rattle.aes128.proofs.inv_sub_bytes.Statement.{statement}
 use Rattle.aes128.proofs.inv_sub_bytes.Tie as tie
@@ -15,7 +16,7 @@ returns c =
     c .substitute .ensures ∙ substituted-by
     invSBoxTable
     invSBox
-    invSBox-table
+    (follow-the-rule .second)
     (c .before .before .args .s)
     (λ i. search needs)
 

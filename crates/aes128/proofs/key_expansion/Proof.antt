@@ -5,7 +5,7 @@ use Prim.Native.Nat.{_+_, _-_}
 use mathlib.Core.List.{[]}
 use native.Mathlib.Omega.{arith}
 use lib.ListN.{getD}
-use Rattle.laws.proofs.Filled.{Filled, more, whole}
+use Rattle.laws.proofs.Filled.{Filled, filled-set, filled-all}
 use Rattle.aes128.specs.KeyExpansion.{xPower, roundKey}
 use Rattle.aes128.proofs.Laws.{filled-first, roundKey-more, xPower-more}
 use borrow.Author.Needs.{needs}
@@ -23,26 +23,18 @@ unfolding xPower
 loop-holds c = (filled-first (c .args .key) (search needs), refl)
 
 loop-again : tie.Need-loop-again Inv-loop μ-loop
-loop-again c = (
-  more
-      (c .before .before .before .before .loop .inv .0)
-      (omega arith)
-      (roundKey-more
-      (c .before .before .before .before .before .args .key)
-      (c .before .before .before .before .loop .i)
-      (c .before .next-round-key .ensures)
-      (c .before .before .before .before .loop .inv .0 .done
-      (c .before .before .before .before .loop .i)
-      (omega arith))
-      (c .before .before .before .before .loop .inv .1)),
-  xPower-more
-      (c .before .before .before .before .loop .i)
-      (c .double .ensures)
-      (c .before .before .before .before .loop .inv .1),
-)
+loop-again c =
+    let turn = c .before .before .before .before in
+    let keys = turn .loop .inv .0 in
+    let rcon = turn .loop .inv .1 in (
+      filled-set keys (omega arith)
+          (roundKey-more (turn .before .args .key) (turn .loop .i) (c .before .next-round-key .ensures)
+          (keys .done (turn .loop .i) (omega arith)) rcon),
+      xPower-more (turn .loop .i) (c .double .ensures) rcon,
+    )
 
 returns : tie.Need-returns Inv-loop μ-loop
-returns c = whole (c .before .loop .inv .0) (omega arith)
+returns c = filled-all (c .before .loop .inv .0) (omega arith)
 
 pub key-expansion-spec : {M : Type 1} → statement M
 key-expansion-spec =

@@ -8,7 +8,7 @@ use Rattle.aes128.proofs.mix_columns.Tie as tie
 returns : tie.Need-returns
 returns c =
     rw (
-      c .turned-sum .ensures,
+      c .rotated-sum .ensures,
       c .before .xor .ensures,
       c .before .before .double-all .ensures,
     )

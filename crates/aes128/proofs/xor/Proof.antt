@@ -4,7 +4,7 @@ use mathlib.Core.Path.{refl}
 use Prim.Native.Nat.{_-_}
 use native.Mathlib.Omega.{arith}
 use lib.ListN.{getD}
-use Rattle.laws.proofs.Filled.{Filled, none, more, whole}
+use Rattle.laws.proofs.Filled.{Filled, filled-none, filled-set, filled-all}
 use Rattle.aes128.specs.Field.{_⊕_}
 use Rattle.aes128.specs.Steps.{sum}
 use borrow.Author.Needs.{needs}
@@ -18,14 +18,14 @@ abbrev μ-loop : tie.MeasureT-loop
 μ-loop a b r₀ i₀ r i = 16 - i
 
 loop-holds : tie.Need-loop-holds Inv-loop μ-loop
-loop-holds c = none refl
+loop-holds c = filled-none refl
 
 loop-again : tie.Need-loop-again Inv-loop μ-loop
-loop-again c = more (c .before .loop .inv) (c .loop-test .taken) refl
+loop-again c = filled-set (c .before .loop .inv) (c .loop-test .taken) refl
 
 returns : tie.Need-returns Inv-loop μ-loop
 unfolding sum
-returns c = whole (c .before .loop .inv) (omega arith)
+returns c = filled-all (c .before .loop .inv) (omega arith)
 
 pub xor-spec : {M : Type 1} → statement M
 xor-spec =

@@ -5,36 +5,34 @@ use borrow.Author.Needs.{needs}
 use Rattle.account_keys.specs.Keys.{held, kept}
 use Rattle.account_keys.proofs.AccountKeys.store.Tie as tie
 use Rattle.account_keys.proofs.AccountKeys.store.Statement.{statement}
-use Rattle.account_keys.proofs.Laws.{held-kept, stored-held, stored-full, stored-room, rest-kept}
+use Rattle.account_keys.proofs.Laws.{held-kept, stored-held, stored-full, stored-room, Kept-drop}
 
 returns : tie.Need-returns
 returns c =
-    stored-held (c .before .before .args .self) (c .before .before .args .key) (c .before .before .pre)
-    (sym (c .before .holds .ensures) ∙ c .if1 .taken)
+    let start = c .before .before in
+    stored-held (start .args .self) (start .args .key) (start .pre) (sym (c .before .holds .ensures) ∙ c .if1 .taken)
 
 push-requires : tie.Need-push-requires
 push-requires c κs =
-    rw (c .without-oldest .ensures) (rest-kept (c .before .before .before .before .args .self)
-    (c .before .before .before .before .args .key) (c .before .before .before .before .pre)
-    (c .before .before .before .before .pre .few))
+    let start = c .before .before .before .before in
+    rw (c .without-oldest .ensures) (Kept-drop (start .args .self) (start .args .key) (start .pre) (start .pre .few))
 
 returns-2 : tie.Need-returns-2
 returns-2 c =
-    c .push .ensures ∙ rw (
-      c .before .without-oldest .ensures,
-      held-kept
-          (drop 1 (held (c .before .before .before .before .before .args .self))),
-    )
-    (ap kept (stored-full (c .before .before .before .before .before .args .self)
-    (c .before .before .before .before .before .args .key) (c .before .before .before .before .before .pre)
-    (sym (c .before .before .before .before .holds .ensures) ∙ c .before .before .before .if1 .left)
-    (c .before .before .if2 .taken)))
+    let full = c .before .before in
+    let other = full .before in
+    let start = other .before .before in
+    let ks = start .args .self in
+    c .push .ensures ∙ rw (c .before .without-oldest .ensures, held-kept (drop 1 (held ks)))
+    (ap kept (stored-full ks (start .args .key) (start .pre) (sym (other .before .holds .ensures) ∙ other .if1 .left)
+    (full .if2 .taken)))
 
 returns-3 : tie.Need-returns-3
 returns-3 c =
-    c .push2 .ensures ∙ ap kept (stored-room (c .before .before .before .before .args .self)
-    (c .before .before .before .before .args .key) (c .before .before .before .before .pre)
-    (sym (c .before .before .before .holds .ensures) ∙ c .before .before .if1 .left) (c .before .if2 .left))
+    let other = c .before .before in
+    let start = other .before .before in
+    c .push2 .ensures ∙ ap kept (stored-room (start .args .self) (start .args .key) (start .pre)
+    (sym (other .before .holds .ensures) ∙ other .if1 .left) (c .before .if2 .left))
 
 pub store-spec : {M : Type 1} → statement M
 store-spec =

@@ -6,12 +6,12 @@ use lib.ListN.{length, drop, replicate}
 use lib.Seq.{paste}
 use borrow.Author.Needs.{needs}
 use Rattle.laws.proofs.Loops.{at-limit}
-use Rattle.laws.proofs.Padded.{shift-more}
+use Rattle.laws.proofs.Padded.{paste-drop-more}
 use Rattle.account_keys.specs.Keys.{limit, zeroKey}
 use Rattle.account_keys.specs.declared.AccountKeys.{AccountKeys}
 use Rattle.account_keys.proofs.AccountKeys.without_oldest.Tie as tie
 use Rattle.account_keys.proofs.AccountKeys.without_oldest.Statement.{statement}
-use Rattle.account_keys.proofs.Laws.{nowhere, room, shifted}
+use Rattle.account_keys.proofs.Laws.{absentKey, length-keys, kept-drop}
 
 abbrev Inv-loop : tie.InvT-loop
 Inv-loop self rest₀ i₀ rest i =
@@ -25,22 +25,25 @@ loop-holds c = (search needs, ap (λ (x : AccountKeys). x .keys) (c .none .ensur
 
 loop-again : tie.Need-loop-again Inv-loop μ-loop
 loop-again c =
-    let h : length (c .before .before .before .before .args .t1 .keys) ≡ limit = room
-    (c .before .before .before .before .args .t1) (c .before .before .before .before .pre .0) in (
+    let turn = c .before .before in
+    let start = turn .before .before in
+    let ks = start .args .t1 in
+    let long : length (ks .keys) ≡ limit = length-keys ks (start .pre .0) in (
       search needs,
-      shift-more (replicate limit zeroKey) (c .before .before .before .before .args .t1 .keys)
-          (c .before .before .loop .i) nowhere (c .before .before .loop .inv .1) (omega arith) (omega arith),
+      paste-drop-more (replicate limit zeroKey) (ks .keys) (turn .loop .i) absentKey (turn .loop .inv .1) (omega arith)
+          (omega arith),
     )
 
 returns : tie.Need-returns Inv-loop μ-loop
 returns c =
+    let end = c .before in
+    let start = end .before .before in
+    let ks = start .args .t1 in
     (λ i. record {
-      keys = at-limit (λ k. c .before .loop .rest .keys ≡ paste (replicate limit zeroKey) 0
-          (drop 1 (c .before .before .before .args .t1 .keys)) k) (c .before .loop .inv .0) (c .loop-test .left)
-          (c .before .loop .inv .1) i;
+      keys = at-limit (λ k. end .loop .rest .keys ≡ paste (replicate limit zeroKey) 0 (drop 1 (ks .keys)) k)
+          (end .loop .inv .0) (c .loop-test .left) (end .loop .inv .1) i;
       count = limit - 1;
-    }) ∙ shifted (c .before .before .before .args .t1)
-    (c .before .before .before .pre .0) (c .before .before .before .pre .1)
+    }) ∙ kept-drop ks (start .pre .0) (start .pre .1)
 
 pub without-oldest-spec : {M : Type 1} → statement M
 without-oldest-spec =

@@ -7,13 +7,14 @@ use Rattle.account_keys.specs.Keys.{held}
 use Rattle.account_keys.proofs.AccountKeys.write.Tie as tie
 use Rattle.account_keys.proofs.AccountKeys.write.Statement.{statement}
 use Rattle.account_keys.proofs.Laws.{count-held}
-use Rattle.account_keys.proofs.StoredList.{no-room, has-room, lent-long}
+use Rattle.account_keys.proofs.StoredList.{writing-no-room, writing-stored, length-lent}
 
 returns : tie.Need-returns
 returns c =
-    no-room (held (c .before .before .args .self)) (c .before .before .pre .sized)
-    ((c .before .before .args .self) .count) (count-held (c .before .before .args .self)
-    (c .before .before .pre .canonical)) (c .before .before .args .out .now) (c .if1 .taken)
+    let start = c .before .before in
+    let ks = start .args .self in
+    writing-no-room (held ks) (start .pre .sized) (ks .count) (count-held ks (start .pre .canonical)) (start .args .out .now)
+    (c .if1 .taken)
 
 slice-write-out-2 : tie.Need-slice-write-out-2
 slice-write-out-2 c = simp length-set (omega (arith, c .before .before .pre .canonical .few, c .if1 .left))
@@ -31,27 +32,27 @@ part-write-keys-start : tie.Need-part-write-keys-start
 part-write-keys-start c = simp length-set (omega (arith, c .before .before .pre .canonical .few, c .if1 .left))
 
 write-keys-requires : tie.Need-write-keys-requires
-write-keys-requires c κs = (
-  c .before .before .before .pre,
-  simp (length-take, length-drop, length-set)
-      (omega (arith, c .before .before .before .pre .canonical .few, c .before .if1 .left)),
-)
+write-keys-requires c κs =
+    let room = c .before in
+    let valid = room .before .before .pre in (
+      valid,
+      simp (length-take, length-drop, length-set) (omega (arith, valid .canonical .few, room .if1 .left)),
+    )
 
 same-length : tie.Need-same-length
 same-length c =
-    lent-long (c .before .before .before .before .before .before .args .out .now) _
-    (c .before .before .write-keys .last .1 .0) _ _ _ _ refl (c .before .before .write-keys .kept .1 .0)
+    let keys = c .before .before in
+    let start = keys .before .before .before .before in
+    length-lent (start .args .out .now) _ (keys .write-keys .last .1 .0) _ _ _ _ refl (keys .write-keys .kept .1 .0)
 
 returns-2 : tie.Need-returns-2
 returns-2 c =
-    has-room (held (c .before .before .before .before .before .before .args .self))
-    (c .before .before .before .before .before .before .pre .sized)
-    ((c .before .before .before .before .before .before .args .self) .count)
-    (count-held (c .before .before .before .before .before .before .args .self)
-    (c .before .before .before .before .before .before .pre .canonical))
-    (c .before .before .before .before .before .before .args .out .now)
-    (omega (arith, c .before .before .before .before .before .before .pre .canonical .few))
-    (c .before .before .before .before .if1 .left) _ _ refl (c .before .before .write-keys .ensures)
+    let keys = c .before .before in
+    let room = keys .before .before in
+    let start = room .before .before in
+    let ks = start .args .self in
+    writing-stored (held ks) (start .pre .sized) (ks .count) (count-held ks (start .pre .canonical)) (start .args .out .now)
+    (omega (arith, start .pre .canonical .few)) (room .if1 .left) _ _ refl (keys .write-keys .ensures)
 
 pub write-spec : {M : Type 1} → statement M
 write-spec =

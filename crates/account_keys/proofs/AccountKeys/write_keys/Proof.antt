@@ -10,8 +10,8 @@ use Rattle.account_keys.specs.Keys.{held}
 use Rattle.account_keys.specs.StoredList.{keyBytes}
 use Rattle.account_keys.proofs.AccountKeys.write_keys.Tie as tie
 use Rattle.account_keys.proofs.AccountKeys.write_keys.Statement.{statement}
-use Rattle.account_keys.proofs.Laws.{room, all-held}
-use Rattle.account_keys.proofs.StoredList.{bytes-more}
+use Rattle.account_keys.proofs.Laws.{length-keys, take-held}
+use Rattle.account_keys.proofs.StoredList.{keyBytes-more}
 
 abbrev Inv-loop : tie.InvT-loop
 Inv-loop out₀ self n i₀ out i =
@@ -27,53 +27,40 @@ loop-holds c = (search needs, refl, refl, refl)
 
 mul-put : tie.Need-mul-put Inv-loop μ-loop
 mul-put c =
-    omega (
-      arith,
-      c .before .before .before .before .before .before .pre .0 .canonical .few,
-      c .before .before .before .before .before .before .pre .1,
-    )
+    let start = c .before .before .before .before .before .before in
+    omega (arith, start .pre .0 .canonical .few, start .pre .1)
 
 put-requires : tie.Need-put-requires Inv-loop μ-loop
 put-requires c κs =
-    omega (
-      arith,
-      c .before .before .before .before .before .before .pre .0 .canonical .few,
-      c .before .before .before .before .before .before .pre .1,
-    )
+    let start = c .before .before .before .before .before .before in
+    omega (arith, start .pre .0 .canonical .few, start .pre .1)
 
 loop-again : tie.Need-loop-again Inv-loop μ-loop
-loop-again c = (
-  search needs,
-  c .before .before .before .before .before .before .before .loop .inv .1,
-  c .before .before .put .ensures ∙ bytes-more
-      (c .before .before .before .before .before .before .before .loop .out)
-      (c .before .before .before .before .before .before .before .before .before .args .out .now)
-      ((c .before .before .before .before .before .before .before .before .before .args .t1) .keys)
-      (c .before .before .before .before .before .before .before .loop .i)
-      ((c .before .before .before .before .before .before .before .before .before .args .t1) .count)
-      (c .before .before .before .before .before .before .before .before .before .pre .0 .sized)
-      (c .before .before .before .before .before .before .loop-test .taken)
-      (omega (
-        arith,
-        c .before .before .before .before .before .before .before .before .before .pre .0 .canonical .few,
-        c .before .before .before .before .before .before .before .before .before .pre .1,
-        room
-            (c .before .before .before .before .before .before .before .before .before .args .t1)
-            (c .before .before .before .before .before .before .before .before .before .pre .0 .canonical),
-      ))
-      (c .before .before .before .before .before .before .before .loop .inv .2),
-  c .before .before .put .kept .0
-      ∙ c .before .before .before .before .before .before .before .loop .inv .3,
-)
+loop-again c =
+    let taken = c .before .before .before .before .before .before in
+    let turn = taken .before in
+    let start = turn .before .before in
+    let ks = start .args .t1 in
+    let few = start .pre .0 .canonical .few in
+    let room = start .pre .1 in
+    let put = c .before .before .put in (
+      search needs,
+      turn .loop .inv .1,
+      put .ensures ∙ keyBytes-more (turn .loop .out) (start .args .out .now) (ks .keys) (turn .loop .i) (ks .count)
+          (start .pre .0 .sized) (taken .loop-test .taken)
+          (omega (arith, few, room, length-keys ks (start .pre .0 .canonical))) (turn .loop .inv .2),
+      put .kept .0 ∙ turn .loop .inv .3,
+    )
 
 same-length : tie.Need-same-length Inv-loop μ-loop
 same-length c = c .before .loop .inv .3
 
 returns : tie.Need-returns Inv-loop μ-loop
 returns c =
-    at-limit (λ k. c .before .loop .out ≡ keyBytes (take k (held (c .before .before .before .args .t1))) ++
-    drop (16 * k) (c .before .before .before .args .out .now)) (c .before .loop .inv .0) (c .loop-test .left)
-    (c .before .loop .inv .2) ∙ rw (all-held (c .before .before .before .args .t1))
+    let end = c .before in
+    let given = end .before .before .args in
+    at-limit (λ k. end .loop .out ≡ keyBytes (take k (held (given .t1))) ++ drop (16 * k) (given .out .now))
+    (end .loop .inv .0) (c .loop-test .left) (end .loop .inv .2) ∙ rw (take-held (given .t1))
 
 pub write-keys-spec : {M : Type 1} → statement M
 write-keys-spec =

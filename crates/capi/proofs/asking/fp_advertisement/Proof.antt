@@ -3,8 +3,8 @@ use mathlib.Core.Path.{ap, _∙_}
 use borrow.Author.Tests.{not-true, not-false}
 use borrow.Author.Needs.{needs}
 use Rattle.capi.specs.Calls.{told, writtenTo}
-use Rattle.provider.specs.Control.{advertised}
-use Rattle.capi.specs.Plain.{promptOf}
+use Rattle.provider.specs.Rules.Control.{advertised}
+use Rattle.capi.specs.Packed.{promptOf}
 use Rattle.capi.proofs.Laws.{read-valid, tells, writes, tells-nothing, writes-nothing}
 use Rattle.capi.proofs.asking.fp_advertisement.Statement.{statement}
 use Rattle.capi.proofs.asking.fp_advertisement.Tie as tie

@@ -1,7 +1,7 @@
 -- The text is told of the device that was read, or nothing is written.
 use borrow.Author.Tests.{not-true, not-false}
 use borrow.Author.Needs.{needs}
-use Rattle.provider.specs.Demands.{written}
+use Rattle.provider.specs.Demands.Validity.{written}
 use Rattle.capi.proofs.Laws.{read-valid, tells, writes, tells-nothing, writes-nothing}
 use Rattle.capi.proofs.asking.fp_stored_list.Statement.{statement}
 use Rattle.capi.proofs.asking.fp_stored_list.Tie as tie

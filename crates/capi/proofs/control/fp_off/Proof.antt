@@ -1,8 +1,8 @@
 -- The device before any is valid.
 use mathlib.Core.Path.{ap, _∙_}
 use borrow.Author.Needs.{needs}
-use Rattle.provider.proofs.ValidParts.{off-valid}
-use Rattle.capi.specs.Plain.{plain}
+use Rattle.provider.proofs.Theorems.ValidParts.{off-valid}
+use Rattle.capi.specs.Packed.{packed}
 use Rattle.capi.proofs.control.fp_off.Statement.{statement}
 use Rattle.capi.proofs.control.fp_off.Tie as tie
 
@@ -10,7 +10,7 @@ pack-requires : tie.Need-pack-requires
 pack-requires c κs = rw (c .off .ensures) off-valid
 
 returns : tie.Need-returns
-returns c = (c .pack .ensures) ∙ ap plain (c .before .off .ensures)
+returns c = (c .pack .ensures) ∙ ap packed (c .before .off .ensures)
 
 pub fp-off-spec : {M : Type 1} → statement M
 fp-off-spec = tie.close (tie.spec (λ c κs. search needs) pack-requires returns)

@@ -1,30 +1,29 @@
--- The rule is served on the device that was read, or the bytes come back.
+-- The step on the device that was read, or the bytes come back.
 use borrow.Author.Tests.{not-true, not-false}
+use Rattle.capi.proofs.Laws.{next-valid, served-known, served-unknown}
+use Rattle.provider.specs.Rules.Event.{PowerOn}
 use borrow.Author.Needs.{needs}
-use Rattle.provider.specs.Control.{powerOn}
-use Rattle.provider.specs.Event.{PowerOn}
-use Rattle.capi.proofs.Laws.{next-valid, serves, comes-back}
 use Rattle.capi.proofs.control.fp_power_on.Statement.{statement}
 use Rattle.capi.proofs.control.fp_power_on.Tie as tie
 
 returns : tie.Need-returns
 returns c =
-    let a = c .before .before .before .before .before .args in
-    comes-back (a .device) (c .before .before .before .unpack .ensures) (λ d. powerOn d (a .stored .now) (a
-    .start)) (not-true _ (c .before .if1 .taken)) (c .returned .ensures)
+    let at-unpack = c .before .before .before in
+    let start = at-unpack .before .before in
+    served-unknown (start .args .device) (at-unpack .unpack .ensures) (PowerOn (start .args .stored .now) (start .args .start)) (not-true (at-unpack .unpack .result .known) (c .before .if1 .taken)) (c .returned .ensures)
 
 pack-outcome-requires : tie.Need-pack-outcome-requires
 pack-outcome-requires c κs =
-    let a = c .before .before .before .before .before .before .args in
-    next-valid (a .device) (c .before .before .before .before .unpack .ensures) (PowerOn (a .stored .now) (a
-    .start)) (c .power-on .ensures)
+    let at-unpack = c .before .before .before .before in
+    let start = at-unpack .before .before in
+    next-valid (start .args .device) (at-unpack .unpack .ensures) (PowerOn (start .args .stored .now) (start .args .start)) (c .power-on .ensures)
 
 returns-2 : tie.Need-returns-2
 returns-2 c =
-    let a = c .before .before .before .before .before .before .before .args in
-    serves (a .device) (c .before .before .before .before .before .unpack .ensures) (λ d. powerOn d (a .stored
-    .now) (a .start)) (not-false _ (c .before .before .before .if1 .left)) (c .before .power-on .ensures) (c
-    .pack-outcome .ensures)
+    let at-if1 = c .before .before .before in
+    let at-unpack = at-if1 .before .before in
+    let start = at-unpack .before .before in
+    served-known (start .args .device) (at-unpack .unpack .ensures) (PowerOn (start .args .stored .now) (start .args .start)) (not-false (at-unpack .unpack .result .known) (at-if1 .if1 .left)) (c .before .power-on .ensures) (c .pack-outcome .ensures)
 
 pub fp-power-on-spec : {M : Type 1} → statement M
 fp-power-on-spec =

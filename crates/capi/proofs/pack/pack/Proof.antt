@@ -1,20 +1,20 @@
 -- Field by field.
 use lib.ListN.{replicate}
 use borrow.Author.Needs.{needs}
-use Rattle.capi.specs.Plain.{plain}
+use Rattle.capi.specs.Packed.{packed}
 use Rattle.capi.proofs.pack.pack.Statement.{statement}
 use Rattle.capi.proofs.pack.pack.Tie as tie
 
 returns : tie.Need-returns
-unfolding plain
+unfolding packed
 returns c =
     let a = c .before .before .before .before .before .before .before .before .before .before .before .args in
     λ i. record {
-      clock = (a .device .clock .0);
+      clock = a .device .clock;
       sessions = c .before .before .pack-links .ensures i;
       spent = (a
           .device .guard .spent);
-      failed = (a .device .guard .failures .last .0);
+      failed = a .device .guard .failures .last;
       stored = c .before .pack-keys .ensures
           i;
       identity = (a .device .identity);

@@ -1,58 +1,41 @@
--- The rule is served on the device that was read, or the bytes come back.
+-- The step on the device that was read, or the bytes come back.
 use mathlib.Core.Path.{ap, _∙_}
 use borrow.Author.Tests.{not-true, not-false}
+use Rattle.capi.proofs.Laws.{read-valid, next-valid, served-known, served-unknown, lent-known, lent-unknown}
+use Rattle.capi.specs.Packed.{elementOf}
+use Rattle.provider.specs.Rules.Event.{OnLink, KeyBasedWrite, step}
 use borrow.Author.Needs.{needs}
-use Rattle.capi.specs.Calls.{served, lentBack}
-use Rattle.capi.specs.Plain.{elementOf}
-use Rattle.provider.specs.KeyBased.{keyBasedWrite}
-use Rattle.provider.specs.Event.{KeyBasedWrite}
-use Rattle.capi.proofs.Laws.{read-valid, next-valid, serves, leaves, comes-back, stays}
 use Rattle.capi.proofs.requests.fp_key_based_write.Statement.{statement}
 use Rattle.capi.proofs.requests.fp_key_based_write.Tie as tie
 
 returns : tie.Need-returns
 returns c =
-    let a = c .before .before .before .before .before .before .args in (
-      comes-back (a .device) (c .before .before .before .unpack .ensures) (λ d. keyBasedWrite d (a .link) (a
-          .clock) (a .request .now) (elementOf (a .element)) (a .salt .now) (a .out .now)) (not-true _ (c .before .if1
-          .taken)) (c .returned .ensures),
-      stays (a .device) (c .before .before .before .unpack .ensures) (λ d.
-          keyBasedWrite d (a .link) (a .clock) (a .request .now) (elementOf (a .element)) (a .salt .now) (a .out .now))
-          (a .out .now) (not-true _ (c .before .if1 .taken)),
-    )
+    let at-unpack = c .before .before .before in
+    let start = at-unpack .before .before .before in
+    (served-unknown (start .args .device) (at-unpack .unpack .ensures) (OnLink (start .args .link) (start .args .clock) (KeyBasedWrite (start .args .request .now) (elementOf (start .args .element)) (start .args .salt .now) (start .args .out .now))) (not-true (at-unpack .unpack .result .known) (c .before .if1 .taken)) (c .returned .ensures), lent-unknown (start .args .device) (at-unpack .unpack .ensures) (OnLink (start .args .link) (start .args .clock) (KeyBasedWrite (start .args .request .now) (elementOf (start .args .element)) (start .args .salt .now) (start .args .out .now))) (not-true (at-unpack .unpack .result .known) (c .before .if1 .taken)))
 
 key-based-write-requires : tie.Need-key-based-write-requires
 key-based-write-requires c κs =
-    read-valid (c .before .before .before .before .before .before .before .before .before .args .device) (c
-    .before .before .before .before .before .before .unpack .ensures)
+    let at-unpack = c .before .before .before .before .before .before in
+    let start = at-unpack .before .before .before in
+    read-valid (start .args .device) (at-unpack .unpack .ensures)
 
 pack-outcome-requires : tie.Need-pack-outcome-requires
 pack-outcome-requires c κs =
-    let a = c .before .before .before .before .before .before .before .before .before .before .before .before
-    .args in
-    next-valid (a .device) (c .before .before .before .before .before .before .before .before .before .unpack
-    .ensures) (KeyBasedWrite (a .link) (a .clock) (a .request .now) (c .before .before .before .before .before
-    .read-element .result) (a .salt .now) (a .out .now)) (c .before .before .key-based-write .ensures .0)
+    let at-key-based-write = c .before .before in
+    let at-read-element = at-key-based-write .before .before .before in
+    let at-unpack = at-read-element .before .before .before .before in
+    let start = at-unpack .before .before .before in
+    next-valid (start .args .device) (at-unpack .unpack .ensures) (OnLink (start .args .link) (start .args .clock) (KeyBasedWrite (start .args .request .now) (elementOf (start .args .element)) (start .args .salt .now) (start .args .out .now))) (at-key-based-write .key-based-write .ensures .0 ∙ ap (λ x. step (at-unpack .unpack .result .device) (OnLink (start .args .link) (start .args .clock) (KeyBasedWrite (start .args .request .now) x (start .args .salt .now) (start .args .out .now))) .gives) (at-read-element .read-element .ensures))
 
 returns-2 : tie.Need-returns-2
 returns-2 c =
-    let a = c .before .before .before .before .before .before .before .before .before .before .before .before
-    .before .args in (
-      serves (a .device) (c .before .before .before .before .before .before .before .before .before .before .unpack
-          .ensures) (λ d. keyBasedWrite d (a .link) (a .clock) (a .request .now) (c .before .before .before .before
-          .before .before .read-element .result) (a .salt .now) (a .out .now)) (not-false _ (c .before .before .before
-          .before .before .before .before .before .if1 .left)) (c .before .before .before .key-based-write .ensures .0)
-          (c .pack-outcome .ensures) ∙ ap (λ x. served (a .device) (λ d. keyBasedWrite d (a .link) (a .clock) (a
-          .request .now) x (a .salt .now) (a .out .now))) (c .before .before .before .before .before .before
-          .read-element .ensures),
-      leaves (a .device) (c .before .before .before .before .before .before .before .before
-          .before .before .unpack .ensures) (λ d. keyBasedWrite d (a .link) (a .clock) (a .request .now) (c .before
-          .before .before .before .before .before .read-element .result) (a .salt .now) (a .out .now)) (a .out .now)
-          (not-false _ (c .before .before .before .before .before .before .before .before .if1 .left)) (c .before
-          .before .before .key-based-write .ensures .1) ∙ ap (λ x. lentBack (a .device) (λ d. keyBasedWrite d (a .link)
-          (a .clock) (a .request .now) x (a .salt .now) (a .out .now)) (a .out .now)) (c .before .before .before .before
-          .before .before .read-element .ensures),
-    )
+    let at-key-based-write = c .before .before .before in
+    let at-read-element = at-key-based-write .before .before .before in
+    let at-if1 = at-read-element .before .before in
+    let at-unpack = at-if1 .before .before in
+    let start = at-unpack .before .before .before in
+    (served-known (start .args .device) (at-unpack .unpack .ensures) (OnLink (start .args .link) (start .args .clock) (KeyBasedWrite (start .args .request .now) (elementOf (start .args .element)) (start .args .salt .now) (start .args .out .now))) (not-false (at-unpack .unpack .result .known) (at-if1 .if1 .left)) (at-key-based-write .key-based-write .ensures .0 ∙ ap (λ x. step (at-unpack .unpack .result .device) (OnLink (start .args .link) (start .args .clock) (KeyBasedWrite (start .args .request .now) x (start .args .salt .now) (start .args .out .now))) .gives) (at-read-element .read-element .ensures)) (c .pack-outcome .ensures), lent-known (start .args .device) (at-unpack .unpack .ensures) (OnLink (start .args .link) (start .args .clock) (KeyBasedWrite (start .args .request .now) (elementOf (start .args .element)) (start .args .salt .now) (start .args .out .now))) (not-false (at-unpack .unpack .result .known) (at-if1 .if1 .left)) (at-key-based-write .key-based-write .ensures .1 ∙ ap (λ x. step (at-unpack .unpack .result .device) (OnLink (start .args .link) (start .args .clock) (KeyBasedWrite (start .args .request .now) x (start .args .salt .now) (start .args .out .now))) .leaves) (at-read-element .read-element .ensures)))
 
 pub fp-key-based-write-spec : {M : Type 1} → statement M
 fp-key-based-write-spec =

@@ -3,28 +3,28 @@ use mathlib.Core.Path.{ap}
 use Prim.Native.Nat.{_-_}
 use lib.ListN.{length, getD}
 use borrow.Author.Needs.{needs}
-use Rattle.laws.proofs.Filled.{Filled, none, more, whole}
-use Rattle.sessions.specs.Sessions.{linkCount, nowhere}
+use Rattle.laws.proofs.Filled.{Filled, filled-none, filled-set, filled-all}
+use Rattle.sessions.specs.Sessions.{linkCount, absentSession}
 use Rattle.sessions.specs.declared.Sessions.{Sessions}
-use Rattle.capi.specs.Plain.{sessionOf, noSession}
+use Rattle.capi.specs.Packed.{sessionOf, noSession}
 use Rattle.capi.proofs.unpack.links_of.Statement.{statement}
 use Rattle.capi.proofs.unpack.links_of.Tie as tie
 
 abbrev Inv-loop : tie.InvT-loop
-Inv-loop from sessions₀ i₀ sessions i = Filled nowhere linkCount (λ l. sessionOf (getD from l noSession)) i (sessions .links)
+Inv-loop from sessions₀ i₀ sessions i = Filled absentSession linkCount (λ l. sessionOf (getD from l noSession)) i (sessions .links)
 
 abbrev μ-loop : tie.MeasureT-loop
 μ-loop from sessions₀ i₀ sessions i = linkCount - i
 
 loop-holds : tie.Need-loop-holds Inv-loop μ-loop
-loop-holds c = none (ap (λ (x : Sessions). length (x .links)) (c .all-idle .ensures))
+loop-holds c = filled-none (ap (λ (x : Sessions). length (x .links)) (c .all-idle .ensures))
 
 loop-again : tie.Need-loop-again Inv-loop μ-loop
 loop-again c =
-    more (c .before .before .before .loop .inv) (c .before .before .loop-test .taken) (c .session-of .ensures)
+    filled-set (c .before .before .before .loop .inv) (c .before .before .loop-test .taken) (c .session-of .ensures)
 
 returns : tie.Need-returns Inv-loop μ-loop
-returns c = λ i. record { links = whole (c .before .loop .inv) (c .loop-test .left) i }
+returns c = λ i. record { links = filled-all (c .before .loop .inv) (c .loop-test .left) i }
 
 pub links-of-spec : {M : Type 1} → statement M
 links-of-spec =

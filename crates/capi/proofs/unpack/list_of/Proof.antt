@@ -5,13 +5,13 @@ use lib.ListN.{length}
 use lib.Seq.{length-take-le}
 use borrow.Author.Tests.{le-leb, lt-leb}
 use borrow.Author.Needs.{needs}
-use Rattle.capi.specs.Plain.{storedRoom}
+use Rattle.account_keys.specs.StoredList.{storedListMax}
 use Rattle.capi.proofs.unpack.list_of.Statement.{statement}
 use Rattle.capi.proofs.unpack.list_of.Tie as tie
 
 returns : tie.Need-returns
 returns c =
-    rw (lt-leb (c .before .before .args .stored .length) storedRoom (c .before .if1 .taken)) (c .malformed
+    rw (lt-leb (c .before .before .args .stored .length) storedListMax (c .before .if1 .taken)) (c .malformed
     .ensures)
 
 array-share-prefix-bytes : tie.Need-array-share-prefix-bytes
@@ -26,7 +26,7 @@ slice-aggregate-read c =
 
 returns-2 : tie.Need-returns-2
 returns-2 c =
-    rw (le-leb (c .before .before .before .before .args .stored .length) storedRoom (c .before .before .before
+    rw (le-leb (c .before .before .before .before .args .stored .length) storedListMax (c .before .before .before
     .if1 .left)) (c .read .ensures)
 
 pub list-of-spec : {M : Type 1} → statement M

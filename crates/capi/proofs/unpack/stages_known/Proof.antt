@@ -4,7 +4,7 @@ use Prim.Native.Nat.{_≤_, _-_}
 use native.Mathlib.Omega.{arith}
 use lib.ListN.{length, drop}
 use borrow.Author.Needs.{needs}
-use Rattle.capi.specs.Plain.{stagesKnown}
+use Rattle.capi.specs.Packed.{stagesKnown}
 use Rattle.capi.proofs.Links.{stage-unknown, stage-known, stages-done}
 use Rattle.capi.proofs.unpack.stages_known.Statement.{statement}
 use Rattle.capi.proofs.unpack.stages_known.Tie as tie

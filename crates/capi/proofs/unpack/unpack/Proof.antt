@@ -3,21 +3,21 @@ use mathlib.Core.Path.{sym, ap, _∙_}
 use borrow.Author.Tests.{not-true, not-false}
 use borrow.Author.Needs.{needs}
 use Rattle.account_keys.specs.declared.Reading.{Reading}
-use Rattle.capi.specs.Plain.{withKeysOf}
-use Rattle.capi.proofs.ReadsBack.{no-device, a-device, list-strange, numbers-strange, is-device}
+use Rattle.capi.specs.Packed.{withKeysOf}
+use Rattle.capi.proofs.ReadsBack.{no-device, a-device, list-unknown, numbers-unknown, is-device}
 use Rattle.capi.proofs.unpack.unpack.Statement.{statement}
 use Rattle.capi.proofs.unpack.unpack.Tie as tie
 
 returns : tie.Need-returns
 returns c =
     let a = c .before .before .before .before .before .args in
-    no-device (a .from) (list-strange (a .from) (c .before .before .before .list-of .ensures) (c .before .before
+    no-device (a .from) (list-unknown (a .from) (c .before .before .before .list-of .ensures) (c .before .before
     .is-well-formed .ensures) (not-true _ (c .before .if1 .taken))) (c .no-device .ensures)
 
 returns-2 : tie.Need-returns-2
 returns-2 c =
     let a = c .before .before .before .before .before .before .before .args in
-    no-device (a .from) (numbers-strange (a .from) (c .before .before .before .before .before .list-of .ensures)
+    no-device (a .from) (numbers-unknown (a .from) (c .before .before .before .before .before .list-of .ensures)
     (c .before .before .before .before .is-well-formed .ensures) (not-false _ (c .before .before .before .if1
     .left)) (c .before .before .numbers-known .ensures) (not-true _ (c .before .if2 .taken))) (c .no-device2
     .ensures)

@@ -1,27 +1,28 @@
--- The two ways of the clock, and two fields of the beacon.
+-- Answer 4, or the change after the clock step.
 use mathlib.Core.List.{[]}
 use mathlib.Core.Path.{sym, ap, _∙_}
+use borrow.Author.Tests.{not-true, not-false}
+use Rattle.basics.specs.declared.Answer.the-variants.{Taken}
+use Rattle.provider.specs.Rules.Control as control
+use Rattle.provider.specs.Rules.Device.{Effect, given}
+use Rattle.provider.specs.declared.Device.{Device}
+use Rattle.provider.proofs.Checks.{time-refused, time-passed}
 use borrow.Author.Needs.{needs}
-use Rattle.provider.specs.Device.{Effect, answers}
-use Rattle.provider.specs.Control as rule
-use Rattle.provider.proofs.Device.address_rotated.Tie as tie
 use Rattle.provider.proofs.Device.address_rotated.Statement.{statement}
-use Rattle.provider.proofs.Laws.{goes-back, goes-on}
+use Rattle.provider.proofs.Device.address_rotated.Tie as tie
 
 returns : tie.Need-returns
-unfolding rule.addressRotated
 returns c =
-    c .went-back .ensures ∙ sym (ap (λ (x : Effect). x .gives)
-    (goes-back (c .before .before .before .before .before .args .self)
-    (c .before .before .before .before .before .args .clock .0) [] _ (c .before .if1 .taken)))
+    let at-in-time = c .before .before .before in
+    let start = at-in-time .before in
+    sym (ap (λ (x : Effect). x .gives) (time-refused (start .args .self) (start .args .clock .0) (at-in-time .in-time .ensures) (not-true (at-in-time .in-time .result .passed) (c .before .if1 .taken)) [] _))
 
 returns-2 : tie.Need-returns-2
-unfolding rule.addressRotated
 returns-2 c =
-    c .answers .ensures ∙ rw (c .before .clock-step .ensures) (sym
-    (ap (λ (x : Effect). x .gives) (goes-on (c .before .before .before .before .before .before .args .self)
-    (c .before .before .before .before .before .before .args .clock .0) [] _ (c .before .before .if1 .left))))
+    let at-if1 = c .before .before in
+    let at-in-time = at-if1 .before .before in
+    let start = at-in-time .before in
+    let p = (time-passed (start .args .self) (start .args .clock .0) (at-in-time .in-time .ensures) (not-false (at-in-time .in-time .result .passed) (at-if1 .if1 .left))) in c .answers .ensures ∙ ap (λ (d : Device). given (control.addressRotated (start .args .ble) (start .args .salt) d) Taken) (p .0) ∙ sym (ap (λ (x : Effect). x .gives) (p .1 [] _))
 
 pub address-rotated-spec : {M : Type 1} → statement M
-address-rotated-spec =
-    tie.close (tie.spec (λ c κs. search needs) returns (λ c κs. search needs) (λ c κs. search needs) returns-2)
+address-rotated-spec = tie.close (tie.spec (λ c κs. search needs) returns (λ c κs. search needs) returns-2)

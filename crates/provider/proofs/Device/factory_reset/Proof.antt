@@ -1,33 +1,31 @@
--- The two ways of the clock, and three parts made new.
+-- Answer 4, or the change after the clock step.
 use mathlib.Core.List.{[]}
 use mathlib.Core.Path.{sym, ap, _∙_}
+use borrow.Author.Tests.{not-true, not-false}
+use Rattle.basics.specs.declared.Answer.the-variants.{Taken}
+use Rattle.provider.specs.Rules.Control as control
+use Rattle.provider.specs.Rules.Device.{Effect, given}
+use Rattle.provider.specs.declared.Device.{Device}
+use Rattle.provider.proofs.Checks.{time-refused, time-passed}
+use Rattle.provider.proofs.Checks.{emptied}
 use borrow.Author.Needs.{needs}
-use Rattle.provider.specs.Device.{Effect, answers}
-use Rattle.provider.specs.Control as rule
-use Rattle.provider.proofs.Device.factory_reset.Tie as tie
 use Rattle.provider.proofs.Device.factory_reset.Statement.{statement}
-use Rattle.provider.proofs.Laws.{goes-back, goes-on}
+use Rattle.provider.proofs.Device.factory_reset.Tie as tie
 
 returns : tie.Need-returns
-unfolding rule.factoryReset
 returns c =
-    c .went-back .ensures ∙ sym (ap (λ (x : Effect). x .gives)
-    (goes-back (c .before .before .before .before .before .args .self)
-    (c .before .before .before .before .before .args .clock .0) [] _ (c .before .if1 .taken)))
+    let at-in-time = c .before .before .before in
+    let start = at-in-time .before in
+    sym (ap (λ (x : Effect). x .gives) (time-refused (start .args .self) (start .args .clock .0) (at-in-time .in-time .ensures) (not-true (at-in-time .in-time .result .passed) (c .before .if1 .taken)) [] _))
 
 returns-2 : tie.Need-returns-2
-unfolding rule.factoryReset
 returns-2 c =
-    c .answers .ensures ∙ rw (
-      c .before .none .ensures,
-      c .before .before .new .ensures,
-      c .before .before .before .drop-all .ensures,
-      c .before .before .before .before .clock-step .ensures,
-    )
-    (sym (ap (λ (x : Effect). x .gives)
-    (goes-on (c .before .before .before .before .before .before .before .before .before .args .self)
-    (c .before .before .before .before .before .before .before .before .before .args .clock .0) [] _
-    (c .before .before .before .before .before .if1 .left))))
+    let at-new = c .before .before in
+    let at-all-idle = at-new .before in
+    let at-if1 = at-all-idle .before .before in
+    let at-in-time = at-if1 .before .before in
+    let start = at-in-time .before in
+    let p = (time-passed (start .args .self) (start .args .clock .0) (at-in-time .in-time .ensures) (not-false (at-in-time .in-time .result .passed) (at-if1 .if1 .left))) in c .answers .ensures ∙ emptied (at-in-time .in-time .result .outcome .next) (c .before .none .ensures) (at-all-idle .all-idle .ensures) (at-new .new .ensures) ∙ ap (λ (d : Device). given (control.factoryReset d) Taken) (p .0) ∙ sym (ap (λ (x : Effect). x .gives) (p .1 [] _))
 
 pub factory-reset-spec : {M : Type 1} → statement M
 factory-reset-spec =
@@ -35,7 +33,6 @@ factory-reset-spec =
     (tie.spec
     (λ c κs. search needs)
     returns
-    (λ c κs. search needs)
     (λ c κs. search needs)
     (λ c κs. search needs)
     (λ c κs. search needs)

@@ -1,11 +1,11 @@
--- Every link idle, and the plain answer.
+-- All links are dropped.
 use mathlib.Core.Path.{ap, _∙_}
-use borrow.Author.Needs.{needs}
-use Rattle.provider.specs.Device.{given, answers}
-use Rattle.provider.specs.declared.Answer.the-variants.{Taken}
+use Rattle.basics.specs.declared.Answer.the-variants.{Taken}
+use Rattle.provider.specs.Rules.Device.{given}
 use Rattle.provider.specs.declared.Device.{Device}
-use Rattle.provider.proofs.Device.overflow.Tie as tie
+use borrow.Author.Needs.{needs}
 use Rattle.provider.proofs.Device.overflow.Statement.{statement}
+use Rattle.provider.proofs.Device.overflow.Tie as tie
 
 returns : tie.Need-returns
 returns c = c .answers .ensures ∙ ap (λ (d : Device). given d Taken) (c .before .drop-all .ensures)

@@ -1,86 +1,63 @@
--- An unknown link, a short output, and the two ways of the clock.
-use mathlib.Core.Path.{sym, ap, _∙_}
-use lib.ListN.{length}
+-- The checks, and then what the event makes of the session.
+use mathlib.Core.Path.{refl, sym, ap, _∙_}
+use borrow.Author.Tests.{not-true, not-false}
+use Rattle.provider.specs.Rules.Device.{Effect}
+use Rattle.provider.proofs.Checks.{event-refused, event-passed, session-gives, session-leaves, room-taken, clock-kept}
+use Rattle.provider.specs.Rules.Event.{OnSession}
+use Rattle.pairing.specs.Pairing.{PasskeyWrite}
 use borrow.Author.Needs.{needs}
-use borrow.Author.Tests.{lt-ltb, le-ltb}
-use Rattle.provider.specs.Device.{Effect, answers}
-use Rattle.provider.specs.Pairing as rule
-use Rattle.provider.proofs.Device.passkey_write.Tie as tie
 use Rattle.provider.proofs.Device.passkey_write.Statement.{statement}
-use Rattle.provider.proofs.Laws.{goes-back, goes-on}
+use Rattle.provider.proofs.Device.passkey_write.Tie as tie
 
 returns : tie.Need-returns
-unfolding rule.passkeyWrite
-returns c = (
-  c .answers .ensures ∙ rw (lt-ltb 7 (c .before .before .before .before .before .args .link .0)
-      (c .before .if1 .taken)),
-  rw (lt-ltb 7 (c .before .before .before .before .before .args .link .0)
-      (c .before .if1 .taken)),
-)
+returns c =
+    let at-on-known-link = c .before .before .before in
+    let at-response-room = at-on-known-link .before in
+    let start = at-response-room .before .before .before in
+    let r = event-refused (start .args .self) (start .args .link .0) (start .args .clock .0) (OnSession (PasskeyWrite (start .args .block .now) (start .args .salt) (start .args .out .now))) (at-response-room .response-room .ensures) (at-on-known-link .on-known-link .ensures) (not-true (at-on-known-link .on-known-link .result .passed) (c .before .if1 .taken)) in (ap (λ (x : Effect). x .gives) r, ap (λ (x : Effect). x .leaves) r)
+
+at-requires : tie.Need-at-requires
+at-requires c κs =
+    let at-on-known-link = c .before .before .before in
+    let at-response-room = at-on-known-link .before in
+    let start = at-response-room .before .before .before in
+    (event-passed (start .args .self) (start .args .link .0) (start .args .clock .0) (OnSession (PasskeyWrite (start .args .block .now) (start .args .salt) (start .args .out .now))) (at-response-room .response-room .ensures) (at-on-known-link .on-known-link .ensures) (not-false (at-on-known-link .on-known-link .result .passed) (c .before .if1 .left))) .known
+
+passkey-write-requires : tie.Need-passkey-write-requires
+passkey-write-requires c κs =
+    let at-if1 = c .before .before .before in
+    let at-on-known-link = at-if1 .before .before in
+    let at-response-room = at-on-known-link .before in
+    let start = at-response-room .before .before .before in
+    room-taken _ ((event-passed (start .args .self) (start .args .link .0) (start .args .clock .0) (OnSession (PasskeyWrite (start .args .block .now) (start .args .salt) (start .args .out .now))) (at-response-room .response-room .ensures) (at-on-known-link .on-known-link .ensures) (not-false (at-on-known-link .on-known-link .result .passed) (at-if1 .if1 .left))) .taken)
+
+acted-requires : tie.Need-acted-requires
+acted-requires c κs =
+    let at-if1 = c .before .before .before .before .before .before in
+    let at-on-known-link = at-if1 .before .before in
+    let at-response-room = at-on-known-link .before in
+    let start = at-response-room .before .before .before in
+    let p = event-passed (start .args .self) (start .args .link .0) (start .args .clock .0) (OnSession (PasskeyWrite (start .args .block .now) (start .args .salt) (start .args .out .now))) (at-response-room .response-room .ensures) (at-on-known-link .on-known-link .ensures) (not-false (at-on-known-link .on-known-link .result .passed) (at-if1 .if1 .left)) in (p .known, rw (p .next) (clock-kept (start .args .self) (start .args .clock .0) (start .pre)))
 
 returns-2 : tie.Need-returns-2
-unfolding rule.passkeyWrite
-returns-2 c = (
-  c .answers2 .ensures ∙ rw (
-    le-ltb 7 (c .before .before .before .before .before .before .args .link .0)
-        (c .before .before .if1 .left),
-    lt-ltb
-        (length (c .before .before .before .before .before .before .args .out .now)) 16 (c .before .if2 .taken),
-  ),
-  rw (
-    le-ltb 7 (c .before .before .before .before .before .before .args .link .0)
-        (c .before .before .if1 .left),
-    lt-ltb
-        (length (c .before .before .before .before .before .before .args .out .now)) 16 (c .before .if2 .taken),
-  ),
-)
-
-returns-3 : tie.Need-returns-3
-unfolding rule.passkeyWrite
-returns-3 c = (
-  c .went-back .ensures ∙ rw
-      (le-ltb 7 (c .before .before .before .before .before .before .before .before .before .before .args .link .0) (c .before .before .before .before .before .before .if1 .left), le-ltb (length (c .before .before .before .before .before .before .before .before .before .before .args .out .now)) 16 (c .before .before .before .before .before .if2 .left)) (sym (ap (λ (x : Effect). x .gives) (goes-back (c .before .before .before .before .before .before .before .before .before .before .args .self) (c .before .before .before .before .before .before .before .before .before .before .args .clock .0) (c .before .before .before .before .before .before .before .before .before .before .args .out .now) _ (c .before .if3 .taken)))),
-  rw (
-    le-ltb 7
-        (c .before .before .before .before .before .before .before .before .before .before .args .link .0)
-        (c .before .before .before .before .before .before .if1 .left),
-    le-ltb
-        (length (c .before .before .before .before .before .before .before .before .before .before .args .out .now))
-        16 (c .before .before .before .before .before .if2 .left),
-  ) (sym
-      (ap (λ (x : Effect). x .leaves)
-      (goes-back (c .before .before .before .before .before .before .before .before .before .before .args .self)
-      (c .before .before .before .before .before .before .before .before .before .before .args .clock .0)
-      (c .before .before .before .before .before .before .before .before .before .before .args .out .now) _
-      (c .before .if3 .taken)))),
-)
-
-returns-4 : tie.Need-returns-4
-unfolding rule.passkeyWrite
-returns-4 c = (
-  c .before .before .prove-passkey .ensures .0 ∙ rw (
-    le-ltb 7
-        (c .before .before .before .before .before .before .before .before .before .before .before .before .before .before .args .link .0) (c .before .before .before .before .before .before .before .before .before .before .if1 .left),
-    le-ltb (length
-        (c .before .before .before .before .before .before .before .before .before .before .before .before .before .before .args .out .now)) 16 (c .before .before .before .before .before .before .before .before .before .if2 .left),
-    c .before .before .before .before .clock-step .ensures,
-  ) (sym (ap (λ (x : Effect). x .gives)
-      (goes-on (c .before .before .before .before .before .before .before .before .before .before .before .before .before .before .args .self) (c .before .before .before .before .before .before .before .before .before .before .before .before .before .before .args .clock .0) (c .before .before .before .before .before .before .before .before .before .before .before .before .before .before .args .out .now) _ (c .before .before .before .before .before .if3 .left)))),
-  c .before .before .prove-passkey .ensures .1 ∙ rw
-      (le-ltb 7 (c .before .before .before .before .before .before .before .before .before .before .before .before .before .before .args .link .0) (c .before .before .before .before .before .before .before .before .before .before .if1 .left), le-ltb (length (c .before .before .before .before .before .before .before .before .before .before .before .before .before .before .args .out .now)) 16 (c .before .before .before .before .before .before .before .before .before .if2 .left), c .before .before .before .before .clock-step .ensures) (sym (ap (λ (x : Effect). x .leaves) (goes-on (c .before .before .before .before .before .before .before .before .before .before .before .before .before .before .args .self) (c .before .before .before .before .before .before .before .before .before .before .before .before .before .before .args .clock .0) (c .before .before .before .before .before .before .before .before .before .before .before .before .before .before .args .out .now) _ (c .before .before .before .before .before .if3 .left)))),
-)
+returns-2 c =
+    let at-passkey-write = c .before .before .before in
+    let at-at = at-passkey-write .before .before in
+    let at-if1 = at-at .before .before in
+    let at-on-known-link = at-if1 .before .before in
+    let at-response-room = at-on-known-link .before in
+    let start = at-response-room .before .before .before in
+    let p = event-passed (start .args .self) (start .args .link .0) (start .args .clock .0) (OnSession (PasskeyWrite (start .args .block .now) (start .args .salt) (start .args .out .now))) (at-response-room .response-room .ensures) (at-on-known-link .on-known-link .ensures) (not-false (at-on-known-link .on-known-link .result .passed) (at-if1 .if1 .left)) in (c .acted .ensures ∙ session-gives (start .args .self) (start .args .link .0) (start .args .clock .0) (PasskeyWrite (start .args .block .now) (start .args .salt) (start .args .out .now)) p (at-at .at .ensures) (at-passkey-write .passkey-write .ensures .0), session-leaves (start .args .self) (start .args .link .0) (start .args .clock .0) (PasskeyWrite (start .args .block .now) (start .args .salt) (start .args .out .now)) p (at-at .at .ensures) (at-passkey-write .passkey-write .ensures .1))
 
 pub passkey-write-spec : {M : Type 1} → statement M
 passkey-write-spec =
     tie.close
     (tie.spec
     (λ c κs. search needs)
+    (λ c κs. search needs)
     returns
-    (λ c κs. search needs)
-    returns-2
-    (λ c κs. search needs)
-    returns-3
-    (λ c κs. search needs)
-    (λ c κs. search needs)
+    at-requires
+    passkey-write-requires
+    acted-requires
     (λ c. search needs)
-    returns-4)
+    returns-2)

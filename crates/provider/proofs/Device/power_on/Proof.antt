@@ -1,36 +1,27 @@
 -- The two ways of the stored list.
 use mathlib.Core.Path.{sym, ap, _∙_}
-use borrow.Author.Needs.{needs}
+use Rattle.basics.specs.declared.Answer.the-variants.{Taken}
 use Rattle.account_keys.specs.declared.Reading.{Reading}
-use Rattle.provider.specs.Device.{Effect, given, answers}
-use Rattle.provider.specs.declared.Answer.the-variants.{Taken}
+use Rattle.provider.specs.Rules.Control as control
+use Rattle.provider.specs.Rules.Device.{Effect, given}
 use Rattle.provider.specs.declared.Device.{Device}
-use Rattle.provider.specs.Control as rule
-use Rattle.provider.proofs.Device.power_on.Tie as tie
+use Rattle.provider.proofs.Checks.{powers-on, list-malformed}
+use borrow.Author.Needs.{needs}
 use Rattle.provider.proofs.Device.power_on.Statement.{statement}
-use Rattle.provider.proofs.Laws.{powers-on, stays-off}
+use Rattle.provider.proofs.Device.power_on.Tie as tie
 
 returns : tie.Need-returns
 returns c =
-    c .answers .ensures ∙ ap (λ (d : Device). given d Taken) (c .before .started .ensures ∙ ap
-    (λ (r : Reading). rule.started (r .keys)
-    (c .before .before .before .before .before .before .before .args .start))
-    (c .before .before .before .before .before .read .ensures)) ∙ sym
-    (ap (λ (x : Effect). x .gives)
-    (powers-on (c .before .before .before .before .before .before .before .args .self)
-    (c .before .before .before .before .before .before .before .args .stored .now)
-    (c .before .before .before .before .before .before .before .args .start)
-    (sym (ap (λ (r : Reading). r .form) (c .before .before .before .before .before .read .ensures))
-    ∙ c .before .before .before .enum-told .given .1)))
+    let at-enum-told = c .before .before .before in
+    let at-read = at-enum-told .before .before in
+    let start = at-read .before .before in
+    c .answers .ensures ∙ ap (λ (d : Device). given d Taken) (c .before .started .ensures ∙ ap (λ (r : Reading). control.started (r .keys) (start .args .start)) (at-read .read .ensures)) ∙ sym (ap (λ (x : Effect). x .gives) (powers-on (start .args .self) (start .args .stored .now) (start .args .start) (sym (ap (λ (r : Reading). r .form) (at-read .read .ensures)) ∙ at-enum-told .enum-told .given .1)))
 
 returns-2 : tie.Need-returns-2
 returns-2 c =
-    c .answers2 .ensures ∙ sym (ap (λ (x : Effect). x .gives) (stays-off
-    (c .before .before .before .before .before .args .self)
-    (c .before .before .before .before .before .args .stored .now)
-    (c .before .before .before .before .before .args .start) (sym
-    (ap (λ (r : Reading). r .form) (c .before .before .before .read .ensures))
-    ∙ c .before .enum-told2 .given .1)))
+    let at-read = c .before .before .before in
+    let start = at-read .before .before in
+    c .answers2 .ensures ∙ sym (ap (λ (x : Effect). x .gives) (list-malformed (start .args .self) (start .args .stored .now) (start .args .start) (sym (ap (λ (r : Reading). r .form) (at-read .read .ensures)) ∙ c .before .enum-told2 .given .1)))
 
 pub power-on-spec : {M : Type 1} → statement M
 power-on-spec =

@@ -2,10 +2,10 @@
 use borrow.Author.Needs.{needs}
 use Rattle.request_guard.proofs.Guard.accepted.Tie as tie
 use Rattle.request_guard.proofs.Guard.accepted.Statement.{statement}
-use Rattle.request_guard.proofs.Laws.{guard-kept}
+use Rattle.request_guard.proofs.Laws.{Kept-spent}
 
 remember-requires : tie.Need-remember-requires
-remember-requires c κs = guard-kept (c .before .args .self) (c .before .pre)
+remember-requires c κs = Kept-spent (c .before .args .self) (c .before .pre)
 
 returns : tie.Need-returns
 returns c = λ i. record { spent = c .before .remember .ensures i; failures = c .none .ensures i }

@@ -6,7 +6,7 @@ use lib.ListN.{length, drop}
 use borrow.Author.Needs.{needs}
 use Rattle.request_guard.specs.Guard.{remembered, spent, saltLimit}
 use Rattle.request_guard.proofs.SpentSalts.holds.Tie as tie
-use Rattle.request_guard.proofs.Laws.{room, spent-step, spent-end}
+use Rattle.request_guard.proofs.Laws.{length-salts, spent-step, spent-end}
 use Rattle.request_guard.proofs.SpentSalts.holds.Statement.{statement}
 
 abbrev Inv-loop : tie.InvT-loop
@@ -24,33 +24,32 @@ element-copy-out-s c = search needs
 
 returns : tie.Need-returns Inv-loop μ-loop
 returns c =
-    let h : length (c .before .before .before .before .before .args .t1 .salts) ≡ saltLimit = room
-    (c .before .before .before .before .before .args .t1) (c .before .before .before .before .before .pre) in
-    sym (sym (c .before .before .before .before .loop .inv .2) ∙ spent-step
-    (c .before .before .before .before .before .args .t1 .salts)
-    (c .before .before .before .before .before .args .t1 .count) (c .before .before .before .before .loop .i)
-    (c .before .before .before .before .before .args .salt) (c .before .before .before .loop-test .taken)
-    (omega (arith, c .before .before .before .before .before .pre .few)) ∙ rw
-    (sym (c .before .same-salt .ensures) ∙ c .if1 .taken))
+    let read = c .before .before .before in
+    let turn = read .before in
+    let start = turn .before in
+    let ss = start .args .t1 in
+    let long : length (ss .salts) ≡ saltLimit = length-salts ss (start .pre) in
+    sym (sym (turn .loop .inv .2) ∙ spent-step (ss .salts) (ss .count) (turn .loop .i) (start .args .salt)
+    (read .loop-test .taken) (omega (arith, start .pre .few)) ∙ rw (sym (c .before .same-salt .ensures) ∙ c .if1 .taken))
 
 loop-again : tie.Need-loop-again Inv-loop μ-loop
 loop-again c =
-    let h : length (c .before .before .before .before .before .args .t1 .salts) ≡ saltLimit = room
-    (c .before .before .before .before .before .args .t1) (c .before .before .before .before .before .pre) in (
+    let read = c .before .before .before in
+    let turn = read .before in
+    let start = turn .before in
+    let ss = start .args .t1 in
+    let long : length (ss .salts) ≡ saltLimit = length-salts ss (start .pre) in (
       search needs,
       refl,
-      sym (spent-step (c .before .before .before .before .before .args .t1 .salts)
-          (c .before .before .before .before .before .args .t1 .count)
-          (c .before .before .before .before .loop .i) (c .before .before .before .before .before .args .salt)
-          (c .before .before .before .loop-test .taken)
-          (omega (arith, c .before .before .before .before .before .pre .few)) ∙ rw
-          (sym (c .before .same-salt .ensures) ∙ c .if1 .left)) ∙ c .before .before .before .before .loop .inv .2,
+      sym (spent-step (ss .salts) (ss .count) (turn .loop .i) (start .args .salt) (read .loop-test .taken)
+          (omega (arith, start .pre .few)) ∙ rw (sym (c .before .same-salt .ensures) ∙ c .if1 .left)) ∙ turn .loop .inv .2,
     )
 
 returns-2 : tie.Need-returns-2 Inv-loop μ-loop
 returns-2 c =
-    sym (sym (c .before .loop .inv .2) ∙ spent-end (c .before .before .args .t1 .salts)
-    (c .before .before .args .t1 .count) (c .before .loop .i) (c .before .before .args .salt)
+    let end = c .before in
+    let ss = end .before .args .t1 in
+    sym (sym (end .loop .inv .2) ∙ spent-end (ss .salts) (ss .count) (end .loop .i) (end .before .args .salt)
     (c .loop-test .left))
 
 pub holds-spec : {M : Type 1} → statement M

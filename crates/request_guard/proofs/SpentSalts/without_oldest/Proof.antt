@@ -6,11 +6,11 @@ use lib.ListN.{length, drop, replicate}
 use lib.Seq.{paste}
 use borrow.Author.Needs.{needs}
 use Rattle.laws.proofs.Loops.{at-limit}
-use Rattle.laws.proofs.Padded.{shift-more}
+use Rattle.laws.proofs.Padded.{paste-drop-more}
 use Rattle.request_guard.specs.Guard.{saltLimit, noSalt}
 use Rattle.request_guard.specs.declared.SpentSalts.{SpentSalts}
 use Rattle.request_guard.proofs.SpentSalts.without_oldest.Tie as tie
-use Rattle.request_guard.proofs.Laws.{nowhere, room, shifted}
+use Rattle.request_guard.proofs.Laws.{absentSalt, length-salts, salts-drop}
 use Rattle.request_guard.proofs.SpentSalts.without_oldest.Statement.{statement}
 
 abbrev Inv-loop : tie.InvT-loop
@@ -25,23 +25,25 @@ loop-holds c = (search needs, ap (λ (x : SpentSalts). x .salts) (c .none .ensur
 
 loop-again : tie.Need-loop-again Inv-loop μ-loop
 loop-again c =
-    let h : length (c .before .before .before .before .args .t1 .salts) ≡ saltLimit = room
-    (c .before .before .before .before .args .t1) (c .before .before .before .before .pre .0) in (
+    let turn = c .before .before in
+    let start = turn .before .before in
+    let ss = start .args .t1 in
+    let long : length (ss .salts) ≡ saltLimit = length-salts ss (start .pre .0) in (
       search needs,
-      shift-more (replicate saltLimit noSalt) (c .before .before .before .before .args .t1 .salts)
-          (c .before .before .loop .i) nowhere (c .before .before .loop .inv .1) (omega arith) (omega arith),
+      paste-drop-more (replicate saltLimit noSalt) (ss .salts) (turn .loop .i) absentSalt (turn .loop .inv .1)
+          (omega arith) (omega arith),
     )
 
 returns : tie.Need-returns Inv-loop μ-loop
 returns c =
+    let end = c .before in
+    let start = end .before .before in
+    let ss = start .args .t1 in
     (λ i. record {
-      salts = at-limit (λ k. c .before .loop .rest .salts ≡ paste (replicate saltLimit noSalt) 0
-          (drop 1 (c .before .before .before .args .t1 .salts)) k) (c .before .loop .inv .0)
-          (c .loop-test .left)
-          (c .before .loop .inv .1) i;
+      salts = at-limit (λ k. end .loop .rest .salts ≡ paste (replicate saltLimit noSalt) 0 (drop 1 (ss .salts)) k)
+          (end .loop .inv .0) (c .loop-test .left) (end .loop .inv .1) i;
       count = saltLimit - 1;
-    }) ∙ shifted (c .before .before .before .args .t1)
-    (c .before .before .before .pre .0) (c .before .before .before .pre .1)
+    }) ∙ salts-drop ss (start .pre .0) (start .pre .1)
 
 pub without-oldest-spec : {M : Type 1} → statement M
 without-oldest-spec =

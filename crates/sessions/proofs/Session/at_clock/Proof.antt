@@ -3,26 +3,28 @@ use mathlib.Core.Path.{sym, _∙_}
 use borrow.Author.Needs.{needs}
 use borrow.Author.Tests.{not-true, not-false}
 use Rattle.sessions.proofs.Session.at_clock.Tie as tie
-use Rattle.sessions.proofs.Laws.{untimed, in-time, lapsed}
+use Rattle.sessions.proofs.Laws.{atClock-untimed, atClock-in-time, atClock-lapsed}
 use Rattle.sessions.proofs.Session.at_clock.Statement.{statement}
 
 returns : tie.Need-returns
 returns c =
-    untimed (c .before .before .before .args .now .0) (c .before .before .before .args .self)
-    (sym (c .before .timed .ensures) ∙ not-true _ (c .if1 .taken))
+    let given = c .before .before .before .args in
+    atClock-untimed (given .now .0) (given .self) (sym (c .before .timed .ensures) ∙ not-true _ (c .if1 .taken))
 
 returns-2 : tie.Need-returns-2
 returns-2 c =
-    in-time (c .before .before .before .before .before .args .now .0)
-    (c .before .before .before .before .before .args .self) (sym (c .before .before .before .timed .ensures)
-    ∙ not-false _ (c .before .before .if1 .left)) (rw (c .before .ago .ensures) at (c .if2 .taken))
+    let asked = c .before .before in
+    let given = asked .before .before .before .args in
+    atClock-in-time (given .now .0) (given .self) (sym (asked .before .timed .ensures) ∙ not-false _ (asked .if1 .left))
+    (rw (c .before .ago .ensures) at (c .if2 .taken))
 
 returns-3 : tie.Need-returns-3
 returns-3 c =
-    c .idle .ensures ∙ lapsed (c .before .before .before .before .before .before .args .now .0)
-    (c .before .before .before .before .before .before .args .self)
-    (sym (c .before .before .before .before .timed .ensures) ∙ not-false _
-    (c .before .before .before .if1 .left)) (rw (c .before .before .ago .ensures) at (c .before .if2 .left))
+    let timed = c .before in
+    let asked = timed .before .before in
+    let given = asked .before .before .before .args in
+    c .idle .ensures ∙ atClock-lapsed (given .now .0) (given .self)
+    (sym (asked .before .timed .ensures) ∙ not-false _ (asked .if1 .left)) (rw (timed .before .ago .ensures) at (timed .if2 .left))
 
 pub at-clock-spec : {M : Type 1} → statement M
 at-clock-spec =

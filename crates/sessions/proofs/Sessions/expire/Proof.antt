@@ -5,9 +5,9 @@ use Prim.Native.Nat.{_≤_, _-_}
 use native.Mathlib.Omega.{arith}
 use lib.ListN.{take, drop}
 use borrow.Author.Needs.{needs}
-use Rattle.laws.proofs.Lists.{map-more, map-done}
+use Rattle.laws.proofs.Lists.{map-more, map-take-all}
 use Rattle.laws.proofs.Loops.{at-limit}
-use Rattle.sessions.specs.Sessions.{nowhere, atClock}
+use Rattle.sessions.specs.Sessions.{absentSession, atClock}
 use Rattle.sessions.proofs.Sessions.expire.Tie as tie
 use Rattle.sessions.proofs.Sessions.expire.Statement.{statement}
 
@@ -22,22 +22,23 @@ loop-holds : tie.Need-loop-holds Inv-loop μ-loop
 loop-holds c = (search needs, refl)
 
 loop-again : tie.Need-loop-again Inv-loop μ-loop
-loop-again c = (
-  search needs,
-  map-more (atClock (c .before .before .before .before .args .now .0))
-      (c .before .before .before .before .args .t1 .links) (c .before .before .before .loop .i) nowhere
-      (c .before .before .before .loop .inv .1) (omega (arith, c .before .before .before .before .pre))
-      (c .at-clock .ensures),
-)
+loop-again c =
+    let turn = c .before .before .before in
+    let start = turn .before in (
+      search needs,
+      map-more (atClock (start .args .now .0)) (start .args .t1 .links) (turn .loop .i) absentSession (turn .loop .inv .1)
+          (omega (arith, start .pre)) (c .at-clock .ensures),
+    )
 
 returns : tie.Need-returns Inv-loop μ-loop
 returns c =
+    let end = c .before in
+    let start = end .before in
+    let links = start .args .t1 .links in
+    let step = atClock (start .args .now .0) in
     λ i. record {
-      links = (at-limit (λ k. c .before .loop .self .links ≡ map
-          (atClock (c .before .before .args .now .0)) (take k (c .before .before .args .t1 .links)) ++ drop k
-          (c .before .before .args .t1 .links)) (c .before .loop .inv .0) (c .loop-test .left)
-          (c .before .loop .inv .1) ∙ map-done (atClock (c .before .before .args .now .0))
-          (c .before .before .args .t1 .links) 8 (c .before .before .pre)) i;
+      links = (at-limit (λ k. end .loop .self .links ≡ map step (take k links) ++ drop k links) (end .loop .inv .0)
+          (c .loop-test .left) (end .loop .inv .1) ∙ map-take-all step links 8 (start .pre)) i;
     }
 
 pub expire-spec : {M : Type 1} → statement M

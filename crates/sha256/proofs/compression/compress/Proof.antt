@@ -7,17 +7,19 @@ use Rattle.sha256.proofs.compression.compress.Statement.{statement}
 returns : tie.Need-returns
 unfolding spec.compress spec.added
 returns c =
+    let four = c .before .before .before .before in
+    let work = four .before .before .before .before in
     rw (
       c .add8 .ensures,
       c .before .add7 .ensures,
       c .before .before .add6 .ensures,
       c .before .before .before .add5 .ensures,
-      c .before .before .before .before .add4 .ensures,
-      c .before .before .before .before .before .add3 .ensures,
-      c .before .before .before .before .before .before .add2 .ensures,
-      c .before .before .before .before .before .before .before .add .ensures,
-      c .before .before .before .before .before .before .before .before .rounds .ensures,
-      c .before .before .before .before .before .before .before .before .before .schedule .ensures,
+      four .add4 .ensures,
+      four .before .add3 .ensures,
+      four .before .before .add2 .ensures,
+      four .before .before .before .add .ensures,
+      work .rounds .ensures,
+      work .before .schedule .ensures,
     )
 
 pub compress-spec : {M : Type 1} → statement M

@@ -7,13 +7,14 @@ use Rattle.sha256.proofs.compression.round.Statement.{statement}
 returns : tie.Need-returns
 unfolding round T₂
 returns c =
+    let half = c .before .before .before in
     rw (
       c .add3 .ensures,
       c .before .add2 .ensures,
       c .before .before .add .ensures,
-      c .before .before .before .maj .ensures,
-      c .before .before .before .before .big-sigma0 .ensures,
-      c .before .before .before .before .before .temp1 .ensures,
+      half .maj .ensures,
+      half .before .big-sigma0 .ensures,
+      half .before .before .temp1 .ensures,
     )
 
 pub round-spec : {M : Type 1} → statement M

@@ -19,21 +19,22 @@ unfolding spec.rounds
 loop-holds c = (search needs, refl, refl)
 
 loop-again : tie.Need-loop-again Inv-loop μ-loop
-loop-again c = (
-  search needs,
-  search needs,
-  rounds-more _ _ _
-      (c .before .before .before .before .before .before .before .before .before .loop .inv .2)
-      (c .before .before .before .before .before .before .round .ensures)
-      (c .before .before .before .before .round2 .ensures) (c .before .before .round3 .ensures)
-      (c .round4 .ensures),
-)
+loop-again c =
+    let second = c .before .before .before .before in
+    let first = second .before .before in
+    let turn = first .before .before .before in (
+      search needs,
+      search needs,
+      rounds-more _ _ _ (turn .loop .inv .2) (first .round .ensures) (second .round2 .ensures)
+          (c .before .before .round3 .ensures) (c .round4 .ensures),
+    )
 
 returns : tie.Need-returns Inv-loop μ-loop
 returns c =
-    at-limit (λ k. c .before .loop .s ≡ spec.rounds (c .before .before .before .args .p)
-    (c .before .before .before .args .t2) k) (c .before .loop .inv .0) (c .loop-test .left)
-    (c .before .loop .inv .2)
+    let end = c .before in
+    let given = end .before .before .args in
+    at-limit (λ k. end .loop .s ≡ spec.rounds (given .p) (given .t2) k) (end .loop .inv .0) (c .loop-test .left)
+    (end .loop .inv .2)
 
 pub rounds-spec : {M : Type 1} → statement M
 rounds-spec =

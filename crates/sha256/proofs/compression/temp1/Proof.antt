@@ -7,13 +7,14 @@ use Rattle.sha256.proofs.compression.temp1.Statement.{statement}
 returns : tie.Need-returns
 unfolding T₁
 returns c =
+    let half = c .before .before .before in
     rw (
       c .add4 .ensures,
       c .before .add3 .ensures,
       c .before .before .add2 .ensures,
-      c .before .before .before .ch .ensures,
-      c .before .before .before .before .add .ensures,
-      c .before .before .before .before .before .big-sigma1 .ensures,
+      half .ch .ensures,
+      half .before .add .ensures,
+      half .before .before .big-sigma1 .ensures,
     )
 
 pub temp1-spec : {M : Type 1} → statement M

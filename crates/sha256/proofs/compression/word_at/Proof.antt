@@ -18,25 +18,19 @@ cast-result-3 c = omega (arith, c .shared-slice-known3 .given (c .before .before
 
 cast-result-4 : tie.Need-cast-result-4
 cast-result-4 c =
-    omega (arith, c .shared-slice-known4 .given (c .before .before .before .before .args .i * 4 + 3))
+    let i = c .before .before .before .before .args .i in omega (arith, c .shared-slice-known4 .given (i * 4 + 3))
 
 returns : tie.Need-returns
 unfolding word
 returns c =
-    or-number4 _ _ _ _ (omega (
-      arith,
-      c .before .before .before .shared-slice-known .given
-          (c .before .before .before .before .args .i * 4),
-    )) (omega (
-      arith,
-      c .before .before .shared-slice-known2 .given (c .before .before .before .before .args .i * 4 +
-          1),
-    )) (omega (
-      arith,
-      c .before .shared-slice-known3 .given
-          (c .before .before .before .before .args .i * 4 + 2),
-    )) (omega
-    (arith, c .shared-slice-known4 .given (c .before .before .before .before .args .i * 4 + 3)))
+    let third = c .before in
+    let second = third .before in
+    let first = second .before in
+    let i = first .before .args .i in
+    or-number4 _ _ _ _ (omega (arith, first .shared-slice-known .given (i * 4)))
+    (omega (arith, second .shared-slice-known2 .given (i * 4 + 1)))
+    (omega (arith, third .shared-slice-known3 .given (i * 4 + 2)))
+    (omega (arith, c .shared-slice-known4 .given (i * 4 + 3)))
 
 pub word-at-spec : {M : Type 1} → statement M
 word-at-spec =

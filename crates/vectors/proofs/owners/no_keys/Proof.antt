@@ -10,7 +10,7 @@ use Rattle.vectors.proofs.owners.no_keys.Statement.{statement}
 
 returns : tie.Need-returns
 unfolding owned
-returns c = rw (c .none .ensures) (kept-valid [] (omega arith) tt refl)
+returns c = (c .none .ensures, rw (c .none .ensures) (kept-valid [] (omega arith) tt refl))
 
 pub no-keys-spec : {M : Type 1} → statement M
 no-keys-spec = tie.close (tie.spec (λ c κs. search needs) returns)

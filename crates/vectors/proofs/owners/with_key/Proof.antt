@@ -6,8 +6,10 @@ use Rattle.vectors.proofs.owners.with_key.Statement.{statement}
 
 returns : tie.Need-returns
 returns c =
-    rw (c .store .ensures) (stores-kept (c .before .args .keys) (record { bytes = c .before .args .bytes })
-    (c .before .pre))
+    let start = c .before in (
+      c .store .ensures,
+      rw (c .store .ensures) (stores-kept (start .args .keys) (record { bytes = start .args .bytes }) (start .pre)),
+    )
 
 pub with-key-spec : {M : Type 1} → statement M
 with-key-spec = tie.close (tie.spec (λ c κs. search needs) returns)

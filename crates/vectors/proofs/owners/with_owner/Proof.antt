@@ -9,12 +9,11 @@ use Rattle.vectors.proofs.owners.with_owner.Statement.{statement}
 
 returns : tie.Need-returns
 returns c =
-    rw (c .store .ensures, c .before .owner .ensures)
-    (stores-valid (c .before .before .args .keys) (record {
-      bytes = 0x04 ∷ replicate 15
-          (c .before .before .args .n);
-    })
-    (c .before .before .pre) refl refl)
+    let start = c .before .before in (
+      rw (c .store .ensures, c .before .owner .ensures),
+      rw (c .store .ensures, c .before .owner .ensures)
+          (stores-valid (start .args .keys) (record { bytes = 0x04 ∷ replicate 15 (start .args .n) }) (start .pre) refl refl),
+    )
 
 pub with-owner-spec : {M : Type 1} → statement M
 with-owner-spec = tie.close (tie.spec (λ c κs. search needs) (λ c κs. search needs) returns)

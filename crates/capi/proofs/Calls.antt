@@ -1,0 +1,153 @@
+-- Demand 3 of calls: what holds of the rules holds of what firmware sees of them.
+-- Assumes nothing.
+use mathlib.Core.Bool.{Bool, true, false}
+use mathlib.Core.List.{List, [], _∷_}
+use mathlib.Core.Logic.{_⊎_, inl, inr, ⊎-elim}
+use mathlib.Core.Path.{_≡_, refl, sym, ap, ap₂, subst, _∙_}
+use Prim.Native.Nat.{ℕ}
+use native.Mathlib.Omega.{arith}
+use Rattle.account_keys.specs.StoredList.{storedListMax}
+use Rattle.account_keys.specs.declared.AccountKey.{AccountKey}
+use Rattle.basics.proofs.Answers.{number-taken}
+use Rattle.basics.specs.Answers.{answerNumber}
+use Rattle.capi.proofs.ReadsBack.{any-bytes, call-is-step}
+use Rattle.capi.specs.Calls.{served, lentBack, returned}
+use Rattle.capi.specs.Demands.{calls, CallsOnlyTakeAway}
+use Rattle.capi.specs.Packed.{packed, packedReply, packedOutcome, isDevice, deviceOf}
+use Rattle.capi.specs.declared.FpDevice.{FpDevice}
+use Rattle.capi.specs.declared.FpOutcome.{FpOutcome}
+use Rattle.capi.specs.declared.FpReply.{FpReply}
+use Rattle.laws.proofs.Padded.{take-padded}
+use Rattle.laws.specs.Choice.{if_then_else_}
+use Rattle.provider.proofs.Theorems.Gap.{gap-only-takes-away}
+use Rattle.provider.proofs.Theorems.Validity.{stays-valid, starts-valid}
+use Rattle.provider.specs.Demands.Gap.{Marked, done, same, added, rules, Lists, Stores, Alike, Lost, Compared, Parting, TwoRuns, Accepts, Quiet, QuietUntilRequest, AfterMarkers, isOf, isRequest, needsKey, anyKind}
+use Rattle.provider.specs.Demands.Validity.{Valid, written}
+use Rattle.provider.specs.Rules.Event.{Event, Overflow, PowerOn, lent, step, next, answerOf}
+use Rattle.provider.specs.declared.Device.{Device}
+use Rattle.provider.specs.declared.Reply.{Reply}
+use Rattle.provider.specs.declared.Start.{Start}
+
+-- ---- what is seen of a call is what is seen of the rules' step
+
+module _ (d : Device) (v : Valid d) (e : Event) where
+  seen-next : served (packed d) e .next ≡ packed (next d e)
+  seen-next = ap (λ (o : FpOutcome). o .next) (call-is-step d e v .0)
+
+  seen-reply : served (packed d) e .reply ≡ packedReply (step d e .gives .reply)
+  seen-reply = ap (λ (o : FpOutcome). o .reply) (call-is-step d e v .0)
+
+  seen-number : served (packed d) e .reply .answer ≡ answerNumber (answerOf d e)
+  seen-number = ap (λ (r : FpReply). r .answer) seen-reply
+
+  seen-leaves : lentBack (packed d) e ≡ step d e .leaves
+  seen-leaves = call-is-step d e v .1
+
+-- the list in C's device is the list written out
+seen-written : (d : Device) → calls .written (packed d) ≡ written d
+unfolding packed
+seen-written d = take-padded storedListMax 0 (written d)
+
+module _ (d : Device) (v : Valid d) (e : Event) where
+  seen-written-next : calls .written (served (packed d) e .next) ≡ written (next d e)
+  seen-written-next = ap (λ (f : FpDevice). calls .written f) (seen-next d v e) ∙ seen-written (next d e)
+
+  -- both store the same keys
+  to-calls : (k : AccountKey) → Stores rules d e k → Stores calls (packed d) e k
+  to-calls k s = (
+    subst (λ (b : List ℕ). Lists b k) (sym seen-written-next) (s .0),
+    λ h. s .1 (subst (λ (b : List ℕ). Lists b k) (seen-written d) h),
+  )
+
+  to-rules : (k : AccountKey) → Stores calls (packed d) e k → Stores rules d e k
+  to-rules k s = (
+    subst (λ (b : List ℕ). Lists b k) seen-written-next (s .0),
+    λ h. s .1 (subst (λ (b : List ℕ). Lists b k) (sym (seen-written d)) h),
+  )
+
+-- ---- one event in two runs
+
+module _ (d c : Device) (v : Valid d) (w : Valid c) (e : Event) where
+  alike : Alike rules d c e → Alike calls (packed d) (packed c) e
+  alike a = (
+    seen-reply d v e ∙ ap packedReply (a .0) ∙ sym (seen-reply c w e),
+    seen-leaves d v e ∙ a .1 ∙ sym (seen-leaves c w e),
+  )
+
+  lost : Lost rules d c e → Lost calls (packed d) (packed c) e
+  lost a = (
+    λ h. a .0 (sym (seen-number d v e) ∙ h),
+    seen-number c w e ∙ a .1,
+    seen-leaves c w e ∙ a .2,
+  )
+
+  compared : Compared rules d c e → Compared calls (packed d) (packed c) e
+  compared a = (
+    ⊎-elim (λ x. inl (alike x)) (λ x. inr (lost x)) (a .0),
+    λ k s. to-calls d v e k (a .1 k (to-rules c w e k s)),
+  )
+
+  parting : Parting rules d c e → Parting calls (packed d) (packed c) e
+  parting p = (p .0, to-calls d v e (p .0) (p .1), λ s. p .2 (to-rules c w e (p .0) s))
+
+-- ---- runs
+
+two-runs : {es fs : List Event} (m : Marked es fs) (d c : Device) → Valid d → Valid c → TwoRuns rules d c m
+    → TwoRuns calls (packed d) (packed c) m
+two-runs done d c v w r = tt
+two-runs (added m) d c v w r =
+    subst (λ (f : FpDevice). TwoRuns calls (packed d) f m) (sym (seen-next c w Overflow))
+    (two-runs m d (next c Overflow) v (stays-valid c Overflow w) r)
+two-runs (same e m) d c v w r = (
+  compared d c v w e (r .0),
+  ⊎-elim (λ p. inl (parting d c v w e p)) (λ q. inr (
+    seen-written-next d v e ∙ q .0 ∙ sym (seen-written-next c w e),
+    subst (λ (f : FpDevice). TwoRuns calls f (served (packed c) e .next) m) (sym (seen-next d v e))
+        (subst (λ (f : FpDevice). TwoRuns calls (packed (next d e)) f m) (sym (seen-next c w e))
+        (two-runs m (next d e) (next c e) (stays-valid d e v) (stays-valid c e w) (q .1))),
+  )) (r .1),
+)
+
+quiet-until-request : (l : ℕ) (es : List Event) (d : Device) → Valid d → QuietUntilRequest rules l d es
+    → QuietUntilRequest calls l (packed d) es
+quiet-until-request l [] d v q = tt
+quiet-until-request l (e ∷ es) d v q = (
+  (λ n h. q .0 .0 n (sym (seen-number d v e) ∙ h), λ n k s. q .0 .1 n k (to-rules d v e k s)),
+  ⊎-elim (λ a. inl (a .0, seen-number d v e ∙ a .1)) (λ r. inr
+      (subst (λ (f : FpDevice). QuietUntilRequest calls l f es) (sym (seen-next d v e))
+      (quiet-until-request l es (next d e) (stays-valid d e v) r))) (q .1),
+)
+
+after-markers : (es : List Event) (d : Device) → Valid d → AfterMarkers rules d es → AfterMarkers calls (packed d) es
+after-markers [] d v a = tt
+after-markers (e ∷ es) d v a = (
+  λ is l. subst (λ (f : FpDevice). QuietUntilRequest calls l f es) (sym (seen-next d v e))
+      (quiet-until-request l es (next d e) (stays-valid d e v) (a .0 is l)),
+  subst (λ (f : FpDevice). AfterMarkers calls f es) (sym (seen-next d v e))
+      (after-markers es (next d e) (stays-valid d e v) (a .1)),
+)
+
+-- ---- from a taken power-on
+
+-- only bytes that are a device get 0
+taken-is-device : (f : FpDevice) (e : Event) → served f e .reply .answer ≡ 0
+    → (served f e .next ≡ packed (next (deviceOf f) e)) × (answerNumber (answerOf (deviceOf f) e) ≡ 0)
+unfolding served
+taken-is-device f e = go (isDevice f)
+  where
+    go : (b : Bool)
+        → (if b then packedOutcome (step (deviceOf f) e .gives) else returned f) .reply .answer ≡ 0
+        → ((if b then packedOutcome (step (deviceOf f) e .gives) else returned f) .next ≡ packed (next (deviceOf f) e))
+        × (answerNumber (answerOf (deviceOf f) e) ≡ 0)
+    go true h = (refl, h)
+    go false h = absurd (omega (arith, h))
+
+pub calls-only-take-away : CallsOnlyTakeAway
+calls-only-take-away f stored start h es fs m =
+    let t = taken-is-device f (PowerOn stored start) h in
+    let d = deviceOf f in
+    let taken = number-taken (answerOf d (PowerOn stored start)) (t .1) in
+    let s = next d (PowerOn stored start) in
+    let v : Valid s = starts-valid d stored start taken in
+    let r = gap-only-takes-away d stored start taken es fs m in
+    rw (t .0) (two-runs m s s v v (r .0), after-markers es s v (r .1), after-markers fs s v (r .2))

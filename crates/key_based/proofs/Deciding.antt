@@ -1,0 +1,125 @@
+-- The ways of a decision, as the functions need them.
+-- Assumes nothing.
+use mathlib.Core.Bool.{Bool, true, false, not}
+use mathlib.Core.List.{List, _++_}
+use mathlib.Core.Path.{_≡_, refl, ap, _∙_}
+use Prim.Native.Nat.{ℕ, _<_}
+use native.Mathlib.Omega.{arith}
+use lib.ListN.{length, take, drop, getD, length-drop}
+use lib.Seq.{paste, take-all}
+use borrow.Author.Tests.{eqb-false}
+use Rattle.aes128.proofs.Sizes.{length-cipher, length-invCipher}
+use Rattle.basics.specs.Answers.{isTaken}
+use Rattle.basics.specs.declared.Address.{Address}
+use Rattle.basics.specs.declared.Answer.the-variants.{LockedOut, NotInPairingMode, NoKeyFits, SaltSpent}
+use Rattle.key_based.specs.Decision.{refused, accepted, saltKnown, settled, triedKeys, unwanted, decided, respondedTo}
+use Rattle.account_keys.specs.Keys.{held}
+use Rattle.key_based.specs.Request.{Found, found, nothing, candidates, flagged, saltAt, requestSalt, response}
+use Rattle.key_based.specs.Search.{tried, handedOver}
+use Rattle.request_guard.proofs.Laws.{padded-proper}
+use Rattle.key_based.specs.declared.Context.{Context}
+use Rattle.key_based.specs.declared.Decision.{Decision}
+use Rattle.key_based.specs.declared.Element.{Element}
+use Rattle.key_based.specs.declared.Search.{Search}
+use Rattle.laws.specs.Choice.{if_then_else_}
+use Rattle.request_guard.specs.Guard as guards
+use Rattle.request_guard.specs.Guard.{Proper, Valid, failedAt}
+use Rattle.request_guard.specs.declared.Guard.{Guard}
+use Rattle.sessions.specs.declared.Session.{Session}
+
+-- the three ways of what the search hands over
+module _ (g : Guard) (s : Session) (t : ℕ) (r : Search) where
+  pub none-fits : r .found ≡ false → settled g s t r ≡ refused (failedAt t g) s NoKeyFits (r .tried)
+  unfolding settled
+  none-fits e = rw e
+
+  pub salt-spent : r .found ≡ true → saltKnown g r ≡ true → settled g s t r ≡ refused g s SaltSpent (r .tried)
+  unfolding settled
+  salt-spent e f = rw (e, f)
+
+  pub request-accepted : r .found ≡ true → saltKnown g r ≡ false → settled g s t r ≡ accepted g t r
+  unfolding settled
+  request-accepted e f = rw (e, f)
+
+-- answers 5 and 6, and what comes then
+module _ (c : Context) (s : Session) (t : ℕ) (element : Element) (request : List ℕ) where
+  pub locked-out : guards.locked (c .guard) ≡ true → decided c s t element request ≡ refused (c .guard) s LockedOut 0
+  unfolding decided
+  locked-out e = rw e
+
+  pub not-in-pairing-mode : guards.locked (c .guard) ≡ false → unwanted c request ≡ true
+      → decided c s t element request ≡ refused (c .guard) s NotInPairingMode 0
+  unfolding decided
+  not-in-pairing-mode e f = rw (e, f)
+
+  pub keys-tried : guards.locked (c .guard) ≡ false → unwanted c request ≡ false
+      → decided c s t element request ≡ settled (c .guard) s t (triedKeys c element request)
+  unfolding decided
+  keys-tried e f = rw (e, f)
+
+pub not-locked : (g : Guard) → Valid g → guards.locked g ≡ false → g .failures .count < 10
+not-locked g v e =
+    let h : g .failures .count ≡ 10 → ⊥ = eqb-false (g .failures .count) 10 e in
+    omega (arith, v .bounded)
+
+-- the response is written exactly if the request is accepted
+module _ (c : Context) (salt out : List ℕ) (r : Decision) where
+  pub output-kept : isTaken (r .answer) ≡ false → out ≡ respondedTo c salt out r
+  output-kept h = rw h
+
+  pub output-written : {b : List ℕ} → isTaken (r .answer) ≡ true → b ≡ response (r .session .key) (c .public) salt
+      → paste out 0 b 16 ≡ respondedTo c salt out r
+  unfolding response
+  output-written {b} h e =
+      let long : length b ≡ 16 = ap length e ∙ length-cipher _ _ in
+      rw h (ap (λ (x : List ℕ). x ++ drop 16 out) (take-all 16 b (omega arith) ∙ e))
+
+-- ---- the salt of a request
+
+-- 2 or 8 bytes of a block of 16
+salt-proper : (plain : List ℕ) → length plain ≡ 16 → Proper (requestSalt plain)
+salt-proper plain h = go (flagged 0x50 (getD plain 1 0))
+  where
+    go : (b : Bool) → Proper (saltAt (if b then 14 else 8) plain)
+    go true = let n : length (drop 14 plain) ≡ 2 = simp length-drop (omega arith) in padded-proper (drop 14 plain) (rw n)
+    go false = let n : length (drop 8 plain) ≡ 8 = simp length-drop (omega arith) in padded-proper (drop 8 plain) (rw n)
+
+-- what the search hands over is a block of 16 bytes
+handed-over-long : (request : List ℕ) (f : Found) → length (handedOver request f .plain) ≡ 16
+handed-over-long request (found n key) = length-invCipher key (take 16 request)
+handed-over-long request (nothing n) = refl
+
+tried-proper : (ble public : Address) (keys : List (List ℕ)) (request : List ℕ)
+    → Proper (requestSalt (handedOver request (tried ble public request 0 keys) .plain))
+tried-proper ble public keys request =
+    salt-proper (handedOver request (tried ble public request 0 keys) .plain)
+    (handed-over-long request (tried ble public request 0 keys))
+
+-- ---- the ways that a decision may go, from what the search hands over
+
+pub data Way (g : Guard) (s : Session) (t : ℕ) (r : Search) : Decision → Type 0 where
+  locked : Way g s t r (refused g s LockedOut 0)
+  unasked : Way g s t r (refused g s NotInPairingMode 0)
+  no-fit : guards.locked g ≡ false → Way g s t r (refused (failedAt t g) s NoKeyFits (r .tried))
+  spent : Way g s t r (refused g s SaltSpent (r .tried))
+  taken : Proper (requestSalt (r .plain)) → Way g s t r (accepted g t r)
+
+pub decided-way : (c : Context) (s : Session) (t : ℕ) (element : Element) (request : List ℕ)
+    → Way (c .guard) s t (triedKeys c element request) (decided c s t element request)
+unfolding decided settled
+decided-way c s t element request =
+    go (guards.locked (c .guard)) (unwanted c request) (triedKeys c element request .found)
+    (saltKnown (c .guard) (triedKeys c element request)) refl
+  where
+    go : (x y z w : Bool) → guards.locked (c .guard) ≡ x
+        → Way (c .guard) s t (triedKeys c element request)
+        (if x then refused (c .guard) s LockedOut 0 else
+        if y then refused (c .guard) s NotInPairingMode 0 else
+        if not z then refused (failedAt t (c .guard)) s NoKeyFits (triedKeys c element request .tried) else
+        if w then refused (c .guard) s SaltSpent (triedKeys c element request .tried) else
+        accepted (c .guard) t (triedKeys c element request))
+    go true y z w e = locked
+    go false true z w e = unasked
+    go false false false w e = no-fit e
+    go false false true true e = spent
+    go false false true false e = taken (tried-proper (c .ble) (c .public) (candidates (held (c .keys)) element request) request)

@@ -1,0 +1,74 @@
+-- Document 01, "Key-based write": answers 5 to 8, what an accepted request changes, and its response.
+-- Assumes nothing.
+use mathlib.Core.Bool.{Bool, not}
+use mathlib.Core.List.{List, _++_}
+use Prim.Native.Nat.{ℕ}
+use lib.ListN.{drop}
+use Rattle.laws.specs.Choice.{if_then_else_, _and_}
+use Rattle.account_keys.specs.Keys.{held}
+use Rattle.basics.specs.Answers.{isTaken}
+use Rattle.basics.specs.declared.Answer.{Answer}
+use Rattle.basics.specs.declared.Answer.the-variants.{Taken, LockedOut, NotInPairingMode, NoKeyFits, SaltSpent}
+use Rattle.key_based.specs.Request.{hasPublicKey, requestSalt, bondAsked, noBond, response}
+use Rattle.key_based.specs.Search.{searched}
+use Rattle.key_based.specs.declared.Context.{Context}
+use Rattle.key_based.specs.declared.Decision.{Decision}
+use Rattle.key_based.specs.declared.Element.{Element}
+use Rattle.key_based.specs.declared.Search.{Search}
+use Rattle.request_guard.specs.Guard.{remembered, spent, locked, failedAt, acceptedWith}
+use Rattle.request_guard.specs.declared.Guard.{Guard}
+use Rattle.sessions.specs.declared.Session.{Session}
+use Rattle.sessions.specs.declared.Stage.the-variants.{Asked}
+
+-- an answer after n keys that hands out no address; the session stays
+abbrev pub refused : Guard → Session → Answer → ℕ → Decision
+refused g s a n = record { answer = a; tried = n; bond = noBond; guard = g; session = s }
+
+-- "K replaces the link's key, stage asked"
+abbrev pub asked : List ℕ → ℕ → Session
+asked key t = record { stage = Asked; key = key; since = record { 0 = t }; passkey = 0 }
+
+-- "If accepted: remember the salt, count becomes 0, K replaces the link's key, stage asked"
+abbrev pub accepted : Guard → ℕ → Search → Decision
+accepted g t r =
+    record {
+      answer = Taken;
+      tried = r .tried;
+      bond = bondAsked (r .plain);
+      guard = acceptedWith (requestSalt (r .plain)) g;
+      session = asked (r .key) t;
+    }
+
+-- 8: "fits, salt remembered"
+abbrev pub saltKnown : Guard → Search → Bool
+saltKnown g r = spent (remembered (g .spent)) (requestSalt (r .plain))
+
+-- answers 7 and 8: "count plus 1, this failure's moment stored" if no candidate fits
+unfoldable pub settled : Guard → Session → ℕ → Search → Decision
+settled g s t r =
+    if not (r .found) then refused (failedAt t g) s NoKeyFits (r .tried) else
+    if saltKnown g r then refused g s SaltSpent (r .tried) else
+    accepted g t r
+
+-- the keys tried
+abbrev pub triedKeys : Context → Element → List ℕ → Search
+triedKeys c element request = searched (c .ble) (c .public) (held (c .keys)) element request
+
+-- 6: "80 bytes, pairing mode off"
+abbrev pub unwanted : Context → List ℕ → Bool
+unwanted c request = hasPublicKey request and not (c .pairing)
+
+-- a request at moment t on a link with session s: answers 5 to 8 in this order
+unfoldable pub decided : Context → Session → ℕ → Element → List ℕ → Decision
+decided c s t element request =
+    if locked (c .guard) then refused (c .guard) s LockedOut 0 else
+    if unwanted c request then refused (c .guard) s NotInPairingMode 0 else
+    settled (c .guard) s t (triedKeys c element request)
+
+-- "and the response is .. encrypted with K": it stands in front of the lent output, whose other bytes stay
+abbrev pub respondedTo : Context → List ℕ → List ℕ → Decision → List ℕ
+respondedTo c salt out r =
+    if isTaken (r .answer) then response (r .session .key) (c .public) salt ++ drop 16 out else out
+
+abbrev pub requestOutput : Context → Session → ℕ → Element → List ℕ → List ℕ → List ℕ → List ℕ
+requestOutput c s t element request salt out = respondedTo c salt out (decided c s t element request)

@@ -1,0 +1,304 @@
+// The pairing, passkey and account key events of document 01. Each is a function of the link's session alone: what it answers,
+// the next session, and an account key to store.
+use account_keys::AccountKey;
+use account_keys::AccountKeys;
+use basics::Answer;
+use basics::Moment;
+use sessions::Session;
+use sessions::Stage;
+ghost use mathlib.Core.Path.{_≡_};
+ghost use Prim.Native.Nat.{_<_, _≤_};
+ghost use lib.ListN.{length};
+ghost use Rattle.account_keys.specs.Keys.{Kept, zeroKey};
+ghost use mathlib.Core.Bool.{false};
+ghost use Rattle.pairing.specs.Pairing as rule;
+ghost use Rattle.pairing.specs.Pairing.{acts, leaves, PairingStarted, ConfirmationNeeded, PasskeyWrite, PairingEnded, AccountKeyWrite};
+
+// Whether the radio is to confirm the passkey.
+pub enum Confirm {
+    Unasked,
+    Yes,
+    No,
+}
+
+// What an event makes of a session; `key` is zero where it stores none.
+pub struct Act {
+    pub answer: Answer,
+    pub confirm: Confirm,
+    pub session: Session,
+    pub stores: bool,
+    pub key: AccountKey,
+}
+
+// A passkey or account block after decryption; `plain` is zero where it is not as wanted.
+struct Opened {
+    good: bool,
+    plain: [u8; 16],
+}
+
+impl Act {
+    // The account keys after the event.
+    pub fn stored_in(self, keys: AccountKeys) -> AccountKeys
+        requires { ⌜ Kept keys ⌝ }
+        ensures { λ r. ⌜ r ≡ rule.storedIn self keys ⌝ }
+    {
+        if !self.stores {
+            return keys;
+        }
+        let key = self.key;
+        keys.store(key)
+    }
+}
+
+pub fn pairing_started(session: Session, clock: Moment, capability: u8) -> Act
+    ensures { λ r. ⌜ r ≡ acts (PairingStarted capability) (clock .0) session ⌝ }
+{
+    let act = in_stage(session, Stage::Asked);
+    let answer = act.answer;
+    if !answer.is_taken() {
+        return act;
+    }
+    if is_refused(capability) {
+        return dropped(Answer::CapabilityRefused);
+    }
+    answered(Answer::Taken, session.moved(Stage::Pairing, clock))
+}
+
+pub fn confirmation_needed(session: Session, clock: Moment, passkey: u32) -> Act
+    ensures { λ r. ⌜ r ≡ acts (ConfirmationNeeded passkey) (clock .0) session ⌝ }
+{
+    let act = in_stage(session, Stage::Pairing);
+    let answer = act.answer;
+    if !answer.is_taken() {
+        return act;
+    }
+    answered(Answer::Taken, confirming(session, clock, passkey))
+}
+
+// The response stands in front of `out` if the passkeys were compared.
+pub fn passkey_write(
+    session: Session,
+    clock: Moment,
+    block: &[u8],
+    salt: [u8; 12],
+    out: &mut [u8],
+) -> Act
+    requires { ⌜ 16 ≤ length (now out) ⌝ }
+    ensures { λ r. ⌜ r ≡ acts (PasskeyWrite (now (block .entry)) salt (now (out .entry))) (clock .0) session ⌝ }
+    ensures { λ r. ⌜ now (out .exit) ≡ leaves (PasskeyWrite (now (block .entry)) salt (now (out .entry))) (clock .0) session ⌝ }
+{
+    let act = passkey_checked(session, clock, block);
+    let answer = act.answer;
+    if !answer.is_taken() {
+        return act;
+    }
+    basics::put(out, 0, passkey_response(session, salt));
+    act
+}
+
+pub fn pairing_ended(session: Session, clock: Moment, success: bool) -> Act
+    ensures { λ r. ⌜ r ≡ acts (PairingEnded success) (clock .0) session ⌝ }
+{
+    if !success {
+        return pairing_failed(session);
+    }
+    let act = in_stage(session, Stage::Proved);
+    let answer = act.answer;
+    if !answer.is_taken() {
+        return act;
+    }
+    answered(Answer::Taken, session.moved(Stage::Paired, clock))
+}
+
+// K is dropped, whatever becomes of the block.
+pub fn account_key_write(session: Session, block: &[u8]) -> Act
+    ensures { λ r. ⌜ r ≡ acts (AccountKeyWrite (now (block .entry))) 0 session ⌝ }
+{
+    let act = in_stage(session, Stage::Paired);
+    let answer = act.answer;
+    if !answer.is_taken() {
+        return act;
+    }
+    let key = session.key;
+    let opened = opened_block(key, block, 0x04);
+    if !opened.good {
+        return dropped(Answer::BadBlock);
+    }
+    let plain = opened.plain;
+    key_stored(plain)
+}
+
+// The check of the stage: the answer is `Taken`, and the session as it was, where it is in the stage that the event needs.
+fn in_stage(session: Session, needed: Stage) -> Act
+    ensures { λ r. ⌜ r ≡ rule.inStage needed (rule.answered Answer.Taken) session ⌝ }
+{
+    if session.is_in(Stage::Idle) {
+        return answered(Answer::LinkIdle, session);
+    }
+    if !session.is_in(needed) {
+        return dropped(Answer::WrongStage);
+    }
+    answered(Answer::Taken, session)
+}
+
+// A failed pairing ends whatever stage the link was in.
+fn pairing_failed(session: Session) -> Act
+    ensures { λ r. ⌜ r ≡ rule.pairingFailed session ⌝ }
+{
+    if session.is_in(Stage::Idle) {
+        return answered(Answer::LinkIdle, session);
+    }
+    dropped(Answer::Taken)
+}
+
+fn passkey_checked(session: Session, clock: Moment, block: &[u8]) -> Act
+    ensures { λ r. ⌜ r ≡ rule.passkeyWrite (clock .0) (now (block .entry)) session ⌝ }
+{
+    let act = in_stage(session, Stage::Confirming);
+    let answer = act.answer;
+    if !answer.is_taken() {
+        return act;
+    }
+    let key = session.key;
+    let opened = opened_block(key, block, 0x02);
+    if !opened.good {
+        return dropped(Answer::BadBlock);
+    }
+    let plain = opened.plain;
+    compared(session, clock, plain)
+}
+
+// The block as the key decrypts it, if it has 16 bytes and the first one is as wanted.
+fn opened_block(key: [u8; 16], block: &[u8], first: u8) -> Opened
+    ensures { λ r. ⌜ r ≡ rule.openedBlock first key (now (block .entry)) ⌝ }
+{
+    if block.len() != 16 {
+        return not_opened();
+    }
+    let plain = aes128::decrypt(key, basics::sixteen(block, 0));
+    if plain[0] != first {
+        return not_opened();
+    }
+    Opened {
+        good: true,
+        plain: plain,
+    }
+}
+
+fn not_opened() -> Opened
+    ensures { λ r. ⌜ r ≡ rule.notOpened ⌝ }
+{
+    Opened {
+        good: false,
+        plain: [0u8; 16],
+    }
+}
+
+// Yes and the stage proved, or no and K dropped.
+fn compared(session: Session, clock: Moment, plain: [u8; 16]) -> Act
+    ensures { λ r. ⌜ r ≡ rule.comparedPasskey (clock .0) session plain ⌝ }
+{
+    if passkey_in(plain) == session.passkey {
+        return confirmed(Confirm::Yes, session.moved(Stage::Proved, clock));
+    }
+    confirmed(Confirm::No, Session::idle())
+}
+
+fn confirmed(confirm: Confirm, session: Session) -> Act
+    ensures { λ r. ⌜ r ≡ record { answer = Answer.Taken; confirm = confirm; session = session; stores = false; key = zeroKey } ⌝ }
+{
+    Act {
+        answer: Answer::Taken,
+        confirm: confirm,
+        session: session,
+        stores: false,
+        key: AccountKey { bytes: [0u8; 16] },
+    }
+}
+
+fn key_stored(plain: [u8; 16]) -> Act
+    ensures { λ r. ⌜ r ≡ rule.keyStored plain ⌝ }
+{
+    Act {
+        answer: Answer::Taken,
+        confirm: Confirm::Unasked,
+        session: Session::idle(),
+        stores: true,
+        key: AccountKey { bytes: plain },
+    }
+}
+
+fn answered(answer: Answer, session: Session) -> Act
+    ensures { λ r. ⌜ r ≡ rule.answered answer session ⌝ }
+{
+    Act {
+        answer: answer,
+        confirm: Confirm::Unasked,
+        session: session,
+        stores: false,
+        key: AccountKey { bytes: [0u8; 16] },
+    }
+}
+
+fn dropped(answer: Answer) -> Act
+    ensures { λ r. ⌜ r ≡ rule.dropped answer ⌝ }
+{
+    answered(answer, Session::idle())
+}
+
+fn is_refused(capability: u8) -> bool
+    ensures { λ r. ⌜ r ≡ rule.refusedCapability capability ⌝ }
+{
+    capability == 3 || 4 < capability
+}
+
+fn confirming(session: Session, clock: Moment, passkey: u32) -> Session
+    ensures { λ r. ⌜ r ≡ rule.confirming (clock .0) passkey session ⌝ }
+{
+    let key = session.key;
+    Session {
+        stage: Stage::Confirming,
+        key: key,
+        since: clock,
+        passkey: passkey,
+    }
+}
+
+// Our passkey and the event's salt, under K.
+fn passkey_response(session: Session, salt: [u8; 12]) -> [u8; 16]
+    ensures { λ r. ⌜ r ≡ rule.passkeyResponse session salt ⌝ }
+{
+    let p = session.passkey;
+    let key = session.key;
+    let block = [
+        0x03,
+        ((p >> 16) % 256) as u8,
+        ((p >> 8) % 256) as u8,
+        ((p >> 0) % 256) as u8,
+        salt[0],
+        salt[1],
+        salt[2],
+        salt[3],
+        salt[4],
+        salt[5],
+        salt[6],
+        salt[7],
+        salt[8],
+        salt[9],
+        salt[10],
+        salt[11],
+    ];
+    aes128::encrypt(key, block)
+}
+
+fn passkey_in(plain: [u8; 16]) -> u32
+    ensures { λ r. ⌜ r ≡ rule.passkeyIn plain ⌝ }
+{
+    wide(plain[1]) * 0x10000 + wide(plain[2]) * 0x100 + wide(plain[3])
+}
+
+fn wide(x: u8) -> u32
+    ensures { λ r. ⌜ (r ≡ x) × (r < 256) ⌝ }
+{
+    x as u32
+}

@@ -1,0 +1,13 @@
+-- The theorems about the rules: a proof of each statement in specs/Demands.
+pub mod AfterMarker
+pub mod AnswerTable
+pub mod EventPairs
+pub mod Gap
+pub mod LinksApart
+pub mod Refusals
+pub mod Samples
+pub mod SessionPairs
+pub mod Stores
+pub mod Validity
+pub mod ValidParts
+pub mod Ways

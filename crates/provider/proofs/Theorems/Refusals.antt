@@ -1,0 +1,192 @@
+-- A refusal writes nothing, changes only what its row names and hands out nothing but the number of keys tried.
+-- Assumes nothing.
+use mathlib.Core.Bool.{Bool, true, false, not}
+use mathlib.Core.List.{List, [], _∷_}
+use mathlib.Core.Path.{_≡_, refl, sym, ap, _∙_}
+use Prim.Native.Nat.{ℕ}
+use lib.Dec.{ltb}
+use lib.ListN.{length}
+use lib.Seq.{set-getD}
+use Rattle.laws.proofs.Choice.{true-is}
+use Rattle.laws.specs.Choice.{if_then_else_}
+use Rattle.basics.specs.Answers.{isTaken, isOneOf}
+use Rattle.basics.specs.declared.Answer.{Answer}
+use Rattle.basics.specs.declared.Answer.the-variants.{Taken, WrongLength, PasskeyTooLarge, OutputTooShort}
+use Rattle.key_based.proofs.Deciding.{Way, locked, unasked, no-fit, spent, taken, decided-way, output-kept}
+use Rattle.key_based.specs.Decision.{triedKeys, decided}
+use Rattle.key_based.specs.Request.{sized}
+use Rattle.key_based.specs.declared.Decision.{Decision}
+use Rattle.key_based.specs.declared.Element.{Element}
+use Rattle.pairing.proofs.Acts.{OnSessions, refusedSession, acts-lawful, refusal-leaves}
+use Rattle.pairing.proofs.Acts as act
+use Rattle.pairing.specs.Pairing.{PairingEvent, PairingStarted, ConfirmationNeeded, PasskeyWrite, PairingEnded, AccountKeyWrite, acts, storedIn}
+use Rattle.pairing.specs.declared.Act.{Act}
+use Rattle.pairing.specs.declared.Confirm.{Confirm}
+use Rattle.key_based.specs.Request.{noBond}
+use Rattle.provider.proofs.Theorems.Ways as event
+use Rattle.provider.proofs.Theorems.Ways.{way}
+use Rattle.provider.specs.Demands.Refusals.{changed, refusedNext, Refusals, triedOnLink, triedIn, toldTried, NumberTried, refusing, RefusalsHandOutOnlyTried}
+use Rattle.provider.specs.Rules.Device.{Effect, clockStep, withSessions, withKeys, withLink}
+use Rattle.provider.specs.Rules.Event.{LinkEvent, LinkUp, LinkDown, KeyBasedWrite, OnSession, Event, OnLink, lentOnLink, lent, early, contextOf, requested, acted, onLink, step}
+use Rattle.provider.specs.declared.Device.{Device}
+use Rattle.provider.specs.declared.Reply.{Reply}
+use Rattle.sessions.specs.Sessions.{absentSession, sessionAt}
+use Rattle.sessions.specs.declared.Session.{Session}
+
+-- what an effect of an event has
+record Tells (d : Device) (e : Event) (x : Effect) : Type 0 where
+  refusal : isTaken (x .gives .reply .answer) ≡ false
+      → (x .leaves ≡ lent e) × (x .gives .next ≡ refusedNext (x .gives .reply .answer) d e)
+      × (x .gives .reply ≡ refusing (x .gives .reply))
+  tried : x .gives .reply .tried ≡ toldTried (x .gives .reply .answer) (triedIn d e)
+
+-- a session put back leaves the device as it was
+pub same-link : (d : Device) (l : ℕ) → withLink d l (sessionAt (d .sessions) l) ≡ d
+same-link d l = ap (λ (ls : List Session). withSessions d (record { links = ls })) (set-getD (d .sessions .links) l absentSession)
+
+-- ---- answers 2, 3 and 13
+
+-- what holds of answers 0, 2, 3 and 13 holds of every early one
+pub early-ways : (P : Answer → Type 0) → P Taken → P WrongLength → P PasskeyTooLarge → P OutputTooShort
+    → (e : LinkEvent) → P (early e)
+early-ways P p q r s LinkUp = p
+early-ways P p q r s LinkDown = p
+early-ways P p q r s (KeyBasedWrite request element salt out) = go (sized request) (ltb (length out) 16)
+  where
+    go : (x y : Bool) → P (if not x then WrongLength else if y then OutputTooShort else Taken)
+    go false y = q
+    go true true = s
+    go true false = p
+early-ways P p q r s (OnSession (PairingStarted capability)) = p
+early-ways P p q r s (OnSession (ConfirmationNeeded passkey)) = go (ltb 999999 passkey)
+  where
+    go : (b : Bool) → P (if b then PasskeyTooLarge else Taken)
+    go true = r
+    go false = p
+early-ways P p q r s (OnSession (PasskeyWrite block salt out)) = go (ltb (length out) 16)
+  where
+    go : (b : Bool) → P (if b then OutputTooShort else Taken)
+    go true = s
+    go false = p
+early-ways P p q r s (OnSession (PairingEnded success)) = p
+early-ways P p q r s (OnSession (AccountKeyWrite block)) = p
+
+-- an early refusal changes nothing, and tells no number of keys
+record Nothing (d : Device) (l t : ℕ) (a : Answer) : Type 0 where
+  changes : isTaken a ≡ false → d ≡ changed a d l t
+  tells : isTaken a ≡ false → (n : ℕ) → 0 ≡ toldTried a n
+
+early-nothing : (d : Device) (l t : ℕ) (e : LinkEvent) → Nothing d l t (early e)
+early-nothing d l t =
+    early-ways (Nothing d l t)
+    (record { changes = λ h. absurd (true-is (sym h)); tells = λ h n. absurd (true-is (sym h)) })
+    (record { changes = λ h. refl; tells = λ h n. refl })
+    (record { changes = λ h. refl; tells = λ h n. refl })
+    (record { changes = λ h. refl; tells = λ h n. refl })
+
+-- ---- answers 5 to 8
+
+module _ (d : Device) (l t : ℕ) (request : List ℕ) (element : Element) (salt out : List ℕ) where
+  -- a decision's outcome
+  record Decides (r : Decision) : Type 0 where
+    next : isTaken (r .answer) ≡ false → requested (clockStep t d) l r .next ≡ changed (r .answer) d l t
+    reply : isTaken (r .answer) ≡ false
+        → requested (clockStep t d) l r .reply ≡ refusing (requested (clockStep t d) l r .reply)
+    tried : r .tried ≡ toldTried (r .answer) (triedKeys (contextOf (clockStep t d)) element request .tried)
+
+  decides : {r : Decision}
+      → Way (clockStep t d .guard) (sessionAt (clockStep t d .sessions) l) t
+      (triedKeys (contextOf (clockStep t d)) element request) r
+      → Decides r
+  decides locked = record { next = λ _. same-link (clockStep t d) l; reply = λ _. refl; tried = refl }
+  decides unasked = record { next = λ _. same-link (clockStep t d) l; reply = λ _. refl; tried = refl }
+  decides (no-fit h) = record { next = λ _. same-link _ l; reply = λ _. refl; tried = refl }
+  decides spent = record { next = λ _. same-link (clockStep t d) l; reply = λ _. refl; tried = refl }
+  decides (taken p) = record {
+    next = λ e. absurd (true-is (sym e));
+    reply = λ e. absurd (true-is (sym e));
+    tried = refl;
+  }
+
+-- ---- answers 9 to 12
+
+module _ (d : Device) (l t : ℕ) where
+  -- 9 leaves the link as it was, and 10, 11 and 12 drop its K
+  session-changed : {a : Answer} → OnSessions a → isTaken a ≡ false
+      → withLink (clockStep t d) l (refusedSession a (sessionAt (clockStep t d .sessions) l)) ≡ changed a d l t
+  session-changed act.taken h = absurd (true-is (sym h))
+  session-changed act.link-idle h = same-link (clockStep t d) l
+  session-changed act.wrong-stage h = refl
+  session-changed act.capability-refused h = refl
+  session-changed act.bad-block h = refl
+
+  module _ (e : PairingEvent) where
+    session-next : isTaken (acts e t (sessionAt (clockStep t d .sessions) l) .answer) ≡ false
+        → acted (clockStep t d) l (acts e t (sessionAt (clockStep t d .sessions) l)) .next
+        ≡ changed (acts e t (sessionAt (clockStep t d .sessions) l) .answer) d l t
+    session-next h =
+        let p = acts-lawful e t (sessionAt (clockStep t d .sessions) l) in
+        ap (λ (a : Act). withLink (withKeys (clockStep t d) (storedIn a (clockStep t d .keys))) l (a .session)) (p .refusal h)
+        ∙ session-changed (p .answer) h
+
+    session-reply : isTaken (acts e t (sessionAt (clockStep t d .sessions) l) .answer) ≡ false
+        → acted (clockStep t d) l (acts e t (sessionAt (clockStep t d .sessions) l)) .reply
+        ≡ refusing (acted (clockStep t d) l (acts e t (sessionAt (clockStep t d .sessions) l)) .reply)
+    session-reply h =
+        let p = acts-lawful e t (sessionAt (clockStep t d .sessions) l) in
+        λ i. record {
+          answer = acts e t (sessionAt (clockStep t d .sessions) l) .answer;
+          tried = 0;
+          bond = noBond;
+          confirm = p .refusal h i .confirm;
+        }
+
+-- no key tried is told as 0, whatever the answer
+none-tried : (b : Bool) → _≡_ {A = ℕ} 0 (if b then 0 else 0)
+none-tried true = refl
+none-tried false = refl
+
+-- ---- every event
+
+told-on-link : (d : Device) (l t : ℕ) (e : LinkEvent) → Tells d (OnLink l t e) (onLink e (clockStep t d) l t)
+told-on-link d l t LinkUp = record { refusal = λ h. absurd (true-is (sym h)); tried = refl }
+told-on-link d l t LinkDown = record { refusal = λ h. absurd (true-is (sym h)); tried = refl }
+told-on-link d l t (KeyBasedWrite request element salt out) =
+    let c = contextOf (clockStep t d) in
+    let s = sessionAt (clockStep t d .sessions) l in
+    let p = decides d l t request element salt out (decided-way c s t element request) in
+    record {
+      refusal = λ h. (sym (output-kept c salt out (decided c s t element request) h), p .next h, p .reply h);
+      tried = p .tried;
+    }
+told-on-link d l t (OnSession e) = record {
+  refusal = λ h. (
+    refusal-leaves e t (sessionAt (clockStep t d .sessions) l) h,
+    session-next d l t e h,
+    session-reply d l t e h,
+  );
+  tried = none-tried (isOneOf (0 ∷ 7 ∷ 8 ∷ []) (acts e t (sessionAt (clockStep t d .sessions) l) .answer));
+}
+
+told : (d : Device) {e : Event} {x : Effect} → event.Way d e x → Tells d e x
+told d event.marker = record { refusal = λ h. absurd (true-is (sym h)); tried = refl }
+told d (event.powered-on stored start h) = record { refusal = λ h. absurd (true-is (sym h)); tried = refl }
+told d (event.malformed stored start) = record { refusal = λ h. (refl, refl, refl); tried = refl }
+told d (event.device-late t e) = record { refusal = λ h. (refl, refl, refl); tried = refl }
+told d (event.device-changed t e) = record { refusal = λ h. absurd (true-is (sym h)); tried = refl }
+told d (event.unknown-link l t e) = record { refusal = λ h. (refl, refl, refl); tried = refl }
+told d (event.refused-early l t e h) = record {
+  refusal = λ _. (refl, early-nothing d l t e .changes h, refl);
+  tried = early-nothing d l t e .tells h (triedIn d (OnLink l t e));
+}
+told d (event.link-late l t e) = record { refusal = λ h. (refl, refl, refl); tried = refl }
+told d (event.on-link l t e k) = told-on-link d l t e
+
+pub refusals : Refusals
+refusals d e h = let r = told d (way d e) .refusal h in (r .0, r .1)
+
+pub number-tried : NumberTried
+number-tried d e = told d (way d e) .tried
+
+pub refusals-hand-out-only-tried : RefusalsHandOutOnlyTried
+refusals-hand-out-only-tried d e h = told d (way d e) .refusal h .2

@@ -1,0 +1,102 @@
+-- Power-on and every event leave a valid device, and its stored list reads back.
+-- Assumes nothing.
+use mathlib.Core.Bool.{Bool, true, false}
+use mathlib.Core.Path.{_≡_, refl, sym}
+use Prim.Native.Nat.{ℕ, _<_}
+use Rattle.laws.proofs.All.{all-get}
+use Rattle.laws.proofs.Choice.{true-is}
+use Rattle.laws.specs.Choice.{if_then_else_}
+use Rattle.account_keys.proofs.ReadBack.{reads-back, reads-valid}
+use Rattle.account_keys.proofs.Storing.{stores-valid}
+use Rattle.account_keys.specs.Keys as keys
+use Rattle.account_keys.specs.Keys.{held, kept, stored}
+use Rattle.account_keys.specs.StoredList.{reading}
+use Rattle.account_keys.specs.declared.AccountKeys.{AccountKeys}
+use Rattle.basics.proofs.Answers.{unlike}
+use Rattle.basics.specs.declared.Answer.the-variants.{Taken, ListMalformed}
+use Rattle.key_based.proofs.Deciding.{Way, locked, unasked, no-fit, spent, taken, decided-way}
+use Rattle.key_based.specs.Decision.{asked}
+use Rattle.key_based.specs.declared.Decision.{Decision}
+use Rattle.key_based.specs.declared.Search.{Search}
+use Rattle.pairing.proofs.Acts.{Lawful, Storable, in-a-stage, acts-lawful}
+use Rattle.pairing.specs.Pairing.{acts, storedIn}
+use Rattle.pairing.specs.declared.Act.{Act}
+use Rattle.provider.proofs.Theorems.ValidParts.{idle-holds-nothing, no-keys-valid, keys-valid, guard-valid, beacon-valid, link-valid, dropAt-valid, dropAll-valid, clockStep-valid, started-valid}
+use Rattle.provider.proofs.Theorems.Ways as event
+use Rattle.provider.proofs.Theorems.Ways.{way}
+use Rattle.provider.specs.Demands.Validity.{Valid, StaysValid, StartsValid, StoredListReadsBack}
+use Rattle.provider.specs.Rules.Device.{Effect, clockStep, withKeys}
+use Rattle.provider.specs.Rules.Event.{DeviceEvent, PairingMode, AddressRotated, FactoryReset, LinkEvent, LinkUp, LinkDown, KeyBasedWrite, OnSession, Event, PowerOn, contextOf, requested, acted, onDevice, onLink}
+use Rattle.provider.specs.declared.Device.{Device}
+use Rattle.request_guard.proofs.Laws.{fresh-valid, accepted-valid, failed-valid}
+use Rattle.request_guard.specs.Guard.{fresh}
+use Rattle.sessions.specs.Sessions.{Canonical, linkCount, absentSession, sessionAt}
+use Rattle.sessions.specs.declared.Session.{Session}
+
+-- ---- events on a link
+
+-- an account key that may be stored
+pub stored-valid : (a : Act) (ks : AccountKeys) → keys.Valid ks → (a .stores ≡ true → Storable (a .key))
+    → keys.Valid (storedIn a ks)
+stored-valid a ks v p = go (a .stores) refl
+  where
+    go : (b : Bool) → a .stores ≡ b → keys.Valid (if b then kept (stored (held ks) (a .key)) else ks)
+    go true e = stores-valid ks (a .key) v (p e .0) (p e .1)
+    go false e = v
+
+module _ {d : Device} (v : Valid d) (l : ℕ) (k : l < linkCount) where
+  session-canonical : Canonical (sessionAt (d .sessions) l)
+  session-canonical = all-get Canonical (d .sessions .links) (v .sessions) l absentSession (rw (v .links) k)
+
+  decision-valid : {t : ℕ} {f : Search} {r : Decision} → Way (d .guard) (sessionAt (d .sessions) l) t f r
+      → Valid (requested d l r .next)
+  decision-valid locked = link-valid (guard-valid v _ (v .guard)) l _ session-canonical
+  decision-valid unasked = link-valid (guard-valid v _ (v .guard)) l _ session-canonical
+  decision-valid {t} (no-fit h) =
+      link-valid (guard-valid v _ (failed-valid (d .guard) (v .guard) t h)) l _ session-canonical
+  decision-valid spent = link-valid (guard-valid v _ (v .guard)) l _ session-canonical
+  decision-valid {t} {f} (taken p) =
+      link-valid (guard-valid v _ (accepted-valid (d .guard) (v .guard) _ p)) l _ (in-a-stage (asked (f .key) t) refl)
+
+  act-valid : {a : Act} → Lawful (sessionAt (d .sessions) l) a → Valid (acted d l a .next)
+  act-valid {a} p =
+      link-valid (keys-valid v _ (stored-valid a (d .keys) (v .keys) (p .storable))) l (a .session)
+      (p .session session-canonical)
+
+  on-link-valid : (e : LinkEvent) (t : ℕ) → Valid (onLink e d l t .gives .next)
+  on-link-valid LinkUp t = dropAt-valid v l
+  on-link-valid LinkDown t = dropAt-valid v l
+  on-link-valid (KeyBasedWrite request element salt out) t =
+      decision-valid (decided-way (contextOf d) (sessionAt (d .sessions) l) t element request)
+  on-link-valid (OnSession e) t = act-valid (acts-lawful e t (sessionAt (d .sessions) l))
+
+-- ---- every event
+
+device-valid : (e : DeviceEvent) {d : Device} → Valid d → Valid (onDevice e d)
+device-valid (PairingMode on) v = beacon-valid v _
+device-valid (AddressRotated ble salt) v = beacon-valid v _
+device-valid FactoryReset v = keys-valid (guard-valid (dropAll-valid v) fresh fresh-valid) _ no-keys-valid
+
+leaves-valid : {d : Device} {e : Event} {x : Effect} → event.Way d e x → Valid d → Valid (x .gives .next)
+leaves-valid event.marker v = dropAll-valid v
+leaves-valid (event.powered-on stored start h) v = started-valid (reading stored .keys) start (reads-valid stored h)
+leaves-valid (event.malformed stored start) v = v
+leaves-valid (event.device-late t e) v = dropAll-valid v
+leaves-valid (event.device-changed t e) v = device-valid e (clockStep-valid v t)
+leaves-valid (event.unknown-link l t e) v = v
+leaves-valid (event.refused-early l t e h) v = v
+leaves-valid (event.link-late l t e) v = dropAll-valid v
+leaves-valid (event.on-link l t e k) v = on-link-valid (clockStep-valid v t) l k e t
+
+pub stays-valid : StaysValid
+stays-valid d e v = leaves-valid (way d e) v
+
+pub starts-valid : StartsValid
+starts-valid d stored start = go (way d (PowerOn stored start))
+  where
+    go : {x : Effect} → event.Way d (PowerOn stored start) x → x .gives .reply .answer ≡ Taken → Valid (x .gives .next)
+    go (event.powered-on stored start h) e = started-valid (reading stored .keys) start (reads-valid stored h)
+    go (event.malformed stored start) e = absurd (unlike ListMalformed Taken tt e)
+
+pub stored-list-reads-back : StoredListReadsBack
+stored-list-reads-back d v = reads-back (d .keys) (v .keys)

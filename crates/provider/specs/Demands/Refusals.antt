@@ -1,0 +1,73 @@
+-- Demand 1: what a refusal changes, leaves and hands out, and the number of keys tried that every answer tells.
+-- Assumes nothing.
+use mathlib.Core.Bool.{false}
+use mathlib.Core.List.{[], _∷_}
+use mathlib.Core.Path.{_≡_}
+use Prim.Native.Nat.{ℕ}
+use Rattle.laws.specs.Choice.{if_then_else_}
+use Rattle.basics.specs.Answers.{isTaken, isOneOf}
+use Rattle.basics.specs.declared.Answer.{Answer}
+use Rattle.key_based.specs.Decision.{triedKeys}
+use Rattle.key_based.specs.Request.{noBond}
+use Rattle.pairing.specs.declared.Confirm.the-variants.{Unasked}
+use Rattle.provider.specs.Rules.Device.{clockStep, dropAll, dropAt, withGuard}
+use Rattle.provider.specs.Rules.Event.{Event, LinkEvent, LinkUp, LinkDown, KeyBasedWrite, OnSession, Overflow, PowerOn, OnDevice, OnLink, lent, contextOf, step, next, answerOf}
+use Rattle.provider.specs.declared.Device.{Device}
+use Rattle.provider.specs.declared.Reply.{Reply}
+use Rattle.request_guard.specs.Guard.{failedAt}
+
+-- the column "Changes": the device after refusal a of an event on link l at moment t
+abbrev pub changed : Answer → Device → ℕ → ℕ → Device
+changed a d l t =
+    -- "nothing"
+    if isOneOf (1 ∷ 2 ∷ 3 ∷ 13 ∷ []) a then d else
+    -- "K dropped on all links; clock stays"
+    if isOneOf (4 ∷ []) a then dropAll d else
+    -- "count plus 1, this failure's moment stored"
+    if isOneOf (7 ∷ []) a then withGuard (clockStep t d) (failedAt t (clockStep t d .guard)) else
+    -- "its K dropped"
+    if isOneOf (10 ∷ 11 ∷ 12 ∷ []) a then dropAt (clockStep t d) l else
+    -- 5, 6, 8 and 9: "clock step only"
+    clockStep t d
+
+-- a marker is never refused, 14 changes nothing, and an event of the whole device is refused by 4 alone
+abbrev pub refusedNext : Answer → Device → Event → Device
+refusedNext a d Overflow = d
+refusedNext a d (PowerOn stored start) = d
+refusedNext a d (OnDevice t e) = dropAll d
+refusedNext a d (OnLink l t e) = changed a d l t
+
+-- "A refusal writes nothing to lent memory and changes only what its row names."
+abbrev pub Refusals : Type 0
+Refusals =
+    (d : Device) (e : Event) → isTaken (answerOf d e) ≡ false
+    → (step d e .leaves ≡ lent e) × (next d e ≡ refusedNext (answerOf d e) d e)
+
+-- the number of keys that an event tries, if it comes to trying
+abbrev pub triedOnLink : LinkEvent → Device → ℕ
+triedOnLink LinkUp d = 0
+triedOnLink LinkDown d = 0
+triedOnLink (KeyBasedWrite request element salt out) d = triedKeys (contextOf d) element request .tried
+triedOnLink (OnSession e) d = 0
+
+abbrev pub triedIn : Device → Event → ℕ
+triedIn d Overflow = 0
+triedIn d (PowerOn stored start) = 0
+triedIn d (OnDevice t e) = 0
+triedIn d (OnLink l t e) = triedOnLink e (clockStep t d)
+
+-- "The answer tells the number of keys tried", with 0, 7 and 8. "An answer given before trying says 0."
+abbrev pub toldTried : Answer → ℕ → ℕ
+toldTried a n = if isOneOf (0 ∷ 7 ∷ 8 ∷ []) a then n else 0
+
+abbrev pub NumberTried : Type 0
+NumberTried = (d : Device) (e : Event) → step d e .gives .reply .tried ≡ toldTried (answerOf d e) (triedIn d e)
+
+-- a refusal hands out no address for bonding and no word on a passkey
+abbrev pub refusing : Reply → Reply
+refusing r = record { answer = r .answer; tried = r .tried; bond = noBond; confirm = Unasked }
+
+abbrev pub RefusalsHandOutOnlyTried : Type 0
+RefusalsHandOutOnlyTried =
+    (d : Device) (e : Event) → isTaken (answerOf d e) ≡ false
+    → step d e .gives .reply ≡ refusing (step d e .gives .reply)

@@ -1,0 +1,78 @@
+-- Document 01: overflow marker, power-on, pairing mode, rotation and factory reset; the advertisement.
+-- Assumes nothing.
+use mathlib.Core.Bool.{Bool, false}
+use mathlib.Core.List.{List, []}
+use lib.ListN.{replicate}
+use Prim.Native.Nat.{ℕ}
+use Rattle.account_keys.specs.Keys.{held, kept}
+use Rattle.account_keys.specs.StoredList.{reading}
+use Rattle.account_keys.specs.declared.AccountKeys.{AccountKeys}
+use Rattle.account_keys.specs.declared.ListForm.{ListForm}
+use Rattle.account_keys.specs.declared.ListForm.the-variants.{WellFormed, Malformed}
+use Rattle.advertising.specs.Payload.{payload}
+use Rattle.advertising.specs.declared.Prompt.{Prompt}
+use Rattle.basics.specs.declared.Address.{Address}
+use Rattle.basics.specs.declared.Answer.the-variants.{ListMalformed}
+use Rattle.provider.specs.Rules.Device.{Effect, answers, takes, dropAll, withGuard, withKeys, withBeacon}
+use Rattle.provider.specs.declared.Device.{Device}
+use Rattle.provider.specs.declared.Start.{Start}
+use Rattle.request_guard.specs.Guard.{fresh}
+use Rattle.sessions.specs.Sessions.{allIdle}
+
+-- "Overflow marker. Has no clock and always gets 0. Drops K on all links. Nothing else changes."
+abbrev pub overflow : Device → Effect
+overflow d = takes (dropAll d)
+
+-- "Pairing mode on or off .. Nothing else changes."
+abbrev pub pairingMode : Bool → Device → Device
+pairingMode on d = withBeacon d (record { ble = d .beacon .ble; salt = d .beacon .salt; pairing = on })
+
+-- "address rotated (new BLE address and new 2-byte filter salt). Nothing else changes."
+abbrev pub addressRotated : Address → List ℕ → Device → Device
+addressRotated ble salt d = withBeacon d (record { ble = ble; salt = salt; pairing = d .beacon .pairing })
+
+-- "Factory reset. Empties the key list and spent salts, drops every K, sets the count to 0."
+abbrev pub factoryReset : Device → Device
+factoryReset d = withKeys (withGuard (dropAll d) fresh) (kept [])
+
+-- "Starts from a stored list, addresses, model ID and salt. All links idle, count 0, no spent salts, pairing mode off, clock 0."
+abbrev pub started : AccountKeys → Start → Device
+started ks s =
+    record {
+      clock = record { 0 = 0 };
+      keys = ks;
+      sessions = allIdle;
+      guard = fresh;
+      identity = s .identity;
+      beacon = record { ble = s .ble; salt = s .salt; pairing = false };
+    }
+
+-- "no device made; an earlier one stays as it was"
+abbrev pub byForm : ListForm → Effect → Effect → Effect
+byForm WellFormed x y = x
+byForm Malformed x y = y
+
+-- "Power-on knows only 0 and 14."
+unfoldable pub powerOn : Device → List ℕ → Start → Effect
+powerOn d stored s =
+    byForm (reading stored .form) (takes (started (reading stored .keys) s)) (answers d ListMalformed [])
+
+-- the value before any device
+abbrev pub noAddress : Address
+noAddress = record { bytes = replicate 6 0 }
+
+abbrev pub off : Device
+off =
+    record {
+      clock = record { 0 = 0 };
+      keys = kept [];
+      sessions = allIdle;
+      guard = fresh;
+      identity = record { public = noAddress; model = replicate 3 0 };
+      beacon = record { ble = noAddress; salt = replicate 2 0; pairing = false };
+    }
+
+-- "Asking for a payload changes no state and needs no clock."
+abbrev pub advertised : Device → Prompt → List ℕ
+advertised d prompt =
+    payload (d .beacon .pairing) (d .identity .model) (held (d .keys)) (d .beacon .salt) prompt
