@@ -25,7 +25,7 @@ enum { LINK = 3, NO_LINK = 8, BEFORE = 1000, NOW = 2000, PASSKEY = 123456, SCHED
 enum { STACK_BYTES = 256 * 1024, PAINT = 0xA5 };
 
 /* Whose key a request is under: an account key's place in the list, a key that nobody holds, the shared secret's. */
-enum { STRANGER = 9, SHARED = 10 };
+enum { UNKNOWN = 9, SHARED = 10 };
 
 static const fp_start START = { .identity = { .public_address = { { 0xA0, 0xB1, 0xC2, 0xD3, 0xE4, 0xF5 } },
 					      .model = { 0x12, 0x34, 0x56 } },
@@ -39,7 +39,7 @@ static uint8_t request[80], passkey_block[16], account_block[16], list[FP_STORED
 static size_t request_length, list_length;
 static uint8_t out[FP_STORED_LIST_MAX];
 
-/* Account keys that differ in their last byte alone take longest to compare; real ones differ in their second. */
+/* Account keys that differ in their last byte alone. Real ones differ in their second, and take as long to compare. */
 static bool alike;
 
 /* ---- what the phone sends */
@@ -88,7 +88,7 @@ static void make_blocks(void)
 	static const uint8_t passkey[4] = { 0x02, PASSKEY >> 16, PASSKEY >> 8 & 0xFF, PASSKEY & 0xFF };
 	memcpy(passkey_block, passkey, sizeof passkey);
 	encrypt(SHARED, passkey_block);
-	account_key(STRANGER, account_block);
+	account_key(UNKNOWN, account_block);
 	encrypt(SHARED, account_block);
 }
 
@@ -172,6 +172,12 @@ static fp_device powered(unsigned keys)
 	return must(power_on(&d), FP_TAKEN);
 }
 
+static fp_device powered_alike(unsigned keys)
+{
+	alike = true;
+	return powered(keys);
+}
+
 static fp_device open_to_pair(unsigned keys)
 {
 	return must(fp_pairing_mode(powered(keys), 1, BEFORE), FP_TAKEN);
@@ -211,7 +217,7 @@ static fp_device paired(unsigned keys)
 static fp_device locked(unsigned keys)
 {
 	fp_device d = powered(keys);
-	make_request(STRANGER, 0);
+	make_request(UNKNOWN, 0);
 	for (int i = 0; i < 10; i++)
 		d = must(key_based(&d), FP_NO_KEY_FITS);
 	return d;
@@ -220,8 +226,7 @@ static fp_device locked(unsigned keys)
 /* Every place in use: five keys, sixteen salts, a key on every link, and all of them as alike as can be. */
 static fp_device full(unsigned keys)
 {
-	alike = true;
-	fp_device d = powered(keys);
+	fp_device d = powered_alike(keys);
 	for (uint8_t i = 1; i <= FP_MAX_SALTS; i++) {
 		make_request(0, i);
 		d = must(fp_key_based_write(d, i % FP_LINKS, BEFORE, request, 16, ELEMENT, SALT, out, sizeof out), FP_TAKEN);
@@ -245,6 +250,7 @@ static const struct row rows[] = {
 	{ "link up on link 8 (1), 0 keys", powered, 0, no_link, 1, 0, 4, 0 },
 	{ "link up on link 8 (1), 1 key", powered, 1, no_link, 1, 0, 20, 0 },
 	{ "link up on link 8 (1), 5 keys", powered, 5, no_link, 1, 0, 84, 0 },
+	{ "link up on link 8 (1), 5 keys that differ in their last byte", powered_alike, 5, no_link, 1, 0, 84, 0 },
 	{ "link up on link 8 (1), all places in use", full, 5, no_link, 1, 0, 84, 0 },
 	{ "overflow marker", asked, 0, overflow, 0, 0, 4, 0 },
 	{ "link up", powered, 0, link_up, 0, 0, 4, 0 },
@@ -254,10 +260,10 @@ static const struct row rows[] = {
 	{ "power-on, 0 keys", off, 0, power_on, 0, 0, 4, 0 },
 	{ "power-on, 5 keys", off, 5, power_on, 0, 0, 84, 0 },
 	{ "factory reset, 5 keys", powered, 5, reset, 0, 0, 4, 0 },
-	{ "key-based write of 16, 0 keys (7)", powered, 0, key_based, 7, 0, 4, STRANGER },
+	{ "key-based write of 16, 0 keys (7)", powered, 0, key_based, 7, 0, 4, UNKNOWN },
 	{ "key-based write of 16, 1 key, fits", powered, 1, key_based, 0, 1, 20, 0 },
 	{ "key-based write of 16, 5 keys, the fifth fits", powered, 5, key_based, 0, 5, 84, 4 },
-	{ "key-based write of 16, 5 keys, none fits (7)", powered, 5, key_based, 7, 5, 84, STRANGER },
+	{ "key-based write of 16, 5 keys, none fits (7)", powered, 5, key_based, 7, 5, 84, UNKNOWN },
 	{ "key-based write of 16, the fifth fits, all places in use", full, 5, key_based, 0, 5, 84, 4 },
 	{ "key-based write of 80, 0 keys, fits", open_to_pair, 0, key_based, 0, 1, 4, SHARED },
 	{ "key-based write locked out (5), 1 key", locked, 1, key_based, 5, 0, 20, 0 },
@@ -293,8 +299,8 @@ static void check(const struct row *row, const fp_device *d)
 	fp_outcome o = row->event(d);
 	if (o.reply.answer == row->answer && o.reply.tried == row->tried && o.next.stored.length == row->length)
 		return;
-	fprintf(stderr, "%s: answer %u, %u tried, length %zu\n", row->name, o.reply.answer, o.reply.tried,
-		o.next.stored.length);
+	fprintf(stderr, "%s: answer %u, %u tried, length %u\n", row->name, o.reply.answer, o.reply.tried,
+		(unsigned)o.next.stored.length);
 	exit(1);
 }
 

@@ -12,7 +12,6 @@ import sys
 
 ROOT = pathlib.Path(__file__).resolve().parent.parent
 FOLDER = ROOT / "target" / "bench"
-ARCHIVES = ROOT / "target" / "staticlib"
 
 # Turns of the two counted runs: start-up cancels in their difference.
 FEW, MANY = 10, 510
@@ -29,11 +28,11 @@ def install_missing():
 
 # The program of bench/NAME.c, linked with one of our archives and with BearSSL's.
 def compiled(name, archive):
-    if not (ARCHIVES / archive).exists():
-        sys.exit(f"{(ARCHIVES / archive).relative_to(ROOT)} is not there; `rt staticlib` makes it")
+    if not archive.exists():
+        sys.exit(f"{archive.relative_to(ROOT)} is not there")
     FOLDER.mkdir(parents=True, exist_ok=True)
     program = FOLDER / name
-    run(["cc", "-O2", "-Wall", "-o", program, ROOT / "bench" / f"{name}.c", ARCHIVES / archive, "-l:libbearssl.a"])
+    run(["cc", "-O2", "-Wall", "-o", program, ROOT / "bench" / f"{name}.c", archive, "-l:libbearssl.a"])
     return program
 
 

@@ -12,7 +12,7 @@ WHOLE = ("-Wl,--whole-archive", ARCHIVE, "-Wl,--no-whole-archive")
 def build():
     """The path of the shared object, made anew from the archive."""
     if not ARCHIVE.exists():
-        raise SetupError(f"{ARCHIVE.relative_to(ROOT)} is not there; `rt staticlib capi` makes it")
+        raise SetupError(f"{ARCHIVE.relative_to(ROOT)} is not there; `tools/archive` makes it")
     FOLDER.mkdir(parents=True, exist_ok=True)
     check_layout()
     compile_c("-shared", "-o", SHARED, *WHOLE)

@@ -4,6 +4,6 @@ import pathlib
 
 ROOT = pathlib.Path(__file__).resolve().parent.parent
 HEADER = ROOT / "include" / "fastpair.h"
-ARCHIVE = ROOT / "target" / "staticlib" / "libcapi.a"
+ARCHIVE = ROOT / "target" / "libfastpair.a"
 FOLDER = ROOT / "target" / "differential"
 SHARED = FOLDER / "libfastpair.so"

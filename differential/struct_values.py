@@ -1,11 +1,11 @@
 """The values of an fp_device, field by field."""
 
 import struct
-from ctypes import Array, Structure, c_size_t, c_uint8, c_uint32, c_uint64, sizeof
+from ctypes import Array, Structure, c_uint8, c_uint32, c_uint64, sizeof
 
 from .structs import FpDevice
 
-CODES = {c_uint8: "B", c_uint32: "I", c_uint64: "Q", c_size_t: "Q"}
+CODES = {c_uint8: "B", c_uint32: "I", c_uint64: "Q"}
 
 
 def places(kind, offset=0, name=""):

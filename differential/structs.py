@@ -1,6 +1,6 @@
 """The structs of include/fastpair.h, field by field."""
 
-from ctypes import Structure, c_size_t, c_uint8, c_uint32, c_uint64
+from ctypes import Structure, c_uint8, c_uint32, c_uint64
 
 LINKS = 8
 MOST_SALTS = 16
@@ -16,7 +16,7 @@ class FpSalt(Structure):
 
 
 class FpSpentSalts(Structure):
-    _fields_ = [("salts", FpSalt * MOST_SALTS), ("count", c_size_t)]
+    _fields_ = [("salts", FpSalt * MOST_SALTS), ("count", c_uint64)]
 
 
 class FpSession(Structure):
@@ -31,7 +31,7 @@ class FpSession(Structure):
 
 class FpStored(Structure):
     _fields_ = [
-        ("length", c_size_t),
+        ("length", c_uint64),
         ("bytes", c_uint8 * STORED_LIST_MAX),
         ("reserved", c_uint8 * 4),
     ]
@@ -80,7 +80,7 @@ class FpOutcome(Structure):
 
 
 class FpReport(Structure):
-    _fields_ = [("length", c_size_t), ("answer", c_uint8), ("reserved", c_uint8 * 7)]
+    _fields_ = [("length", c_uint64), ("answer", c_uint8), ("reserved", c_uint8 * 7)]
 
 
 class FpElement(Structure):

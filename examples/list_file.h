@@ -2,7 +2,7 @@
 #ifndef LIST_FILE_H
 #define LIST_FILE_H
 
-#include "../include/fastpair.h"
+#include <fastpair.h>
 
 /* One byte more than the longest list, so that a longer file is seen to be too long. */
 enum { LIST_FILE_MAX = FP_STORED_LIST_MAX + 1 };

@@ -91,7 +91,7 @@ static void save(const fp_stored *stored)
 {
     if (!list_file_save(list_path, stored))
         stop(list_path, strerror(errno));
-    printf("  list saved, %zu bytes\n", stored->length);
+    printf("  list saved, %u bytes\n", (unsigned)stored->length);
 }
 
 /* What follows every event: its answer is told, a changed list is saved, and the next device replaces the old one. Gives

@@ -4,7 +4,7 @@
 #ifndef PHONE_H
 #define PHONE_H
 
-#include "../include/fastpair.h"
+#include <fastpair.h>
 
 enum { LINK = 3, PASSKEY = 123456, DISPLAY_YES_NO = 1 };
 

@@ -1,8 +1,8 @@
 /* The Fast Pair provider core, for C firmware.
  *
- * Link with libcapi.a (`rt staticlib capi` makes it). The core keeps nothing of its own: no heap, no globals, no locks.
- * All state is in an fp_device, which you hold and hand in by value; every event gives back the next one. Keep that,
- * drop the old one:
+ * Link with libfastpair.a; tools/install puts both where pkg-config finds them. The core keeps nothing of its own: no
+ * heap, no globals, no locks. All state is in an fp_device, which you hold and hand in by value; every event gives back
+ * the next one. Keep that, drop the old one:
  *
  *     fp_device device = fp_off();
  *     fp_outcome o = fp_power_on(device, list, list_length, start);
@@ -10,11 +10,11 @@
  *     if (o.reply.answer != FP_TAKEN) ...
  *
  * The calls are reentrant: each works on its arguments alone, so one may interrupt another. The events of one device
- * still go one after the other, since each needs the device that the last one gave back. The archive is for x86-64 and
- * needs memcpy and memset.
+ * still go one after the other, since each needs the device that the last one gave back. The archive is for x86-64, the
+ * only target of its compiler today, and needs memcpy and memset.
  *
  * You check nothing first. Any bytes, any length, any link number and any clock get one answer, and a refusal writes
- * nothing to lent memory. What the rules are is document 01; that these functions keep them is proved.
+ * nothing to lent memory. The rules are in docs/RULES.md; that these functions keep them is proved.
  *
  * Memory: every pointer is lent for the call alone, and nothing is kept of it. A pointer with a length may be anything if
  * the length is 0. An output overlaps no input of the same call. A pointer to a fixed number of bytes, as salt[9], points
@@ -59,11 +59,17 @@
 #include <stddef.h>
 #include <stdint.h>
 
+/* The version of this interface; docs/CHANGES.md says what changed. */
+#define FP_VERSION "4.0.0"
+#define FP_VERSION_MAJOR 4
+#define FP_VERSION_MINOR 0
+#define FP_VERSION_PATCH 0
+
 #ifdef __cplusplus
 extern "C" {
 #endif
 
-/* ---- answers: document 01's numbers, and one of this interface */
+/* ---- answers: the rules' numbers, and one of this interface */
 enum {
     FP_TAKEN = 0,
     FP_UNKNOWN_LINK = 1,        /* link above 7; nothing changes */
@@ -123,7 +129,7 @@ typedef struct {
 /* The salts of the last accepted requests, oldest first. */
 typedef struct {
     fp_salt salts[FP_MAX_SALTS];
-    size_t count;
+    uint64_t count;
 } fp_spent_salts;
 
 /* One link: the moment its stage began, our passkey while it is to be confirmed, its stage and its session key. An idle
@@ -138,7 +144,7 @@ typedef struct {
 
 /* The owners' account keys as the stored list, ready to be saved: the first `length` bytes. */
 typedef struct {
-    size_t length;
+    uint64_t length;
     uint8_t bytes[FP_STORED_LIST_MAX];
     uint8_t reserved[4];
 } fp_stored;
@@ -200,7 +206,7 @@ typedef struct {
 
 /* FP_TAKEN and the number of bytes written, or FP_OUTPUT_TOO_SHORT (or FP_NOT_A_DEVICE) and 0. */
 typedef struct {
-    size_t length;
+    uint64_t length;
     uint8_t answer;
     uint8_t reserved[7];
 } fp_report;
@@ -214,7 +220,7 @@ typedef struct {
 
 /* The archive's layout on x86-64, where alone it links: a compiler that lays these out otherwise stops here. */
 #if !defined(__x86_64__) || defined(__ILP32__) || defined(_WIN32)
-#error "libcapi.a is for x86-64 with 64-bit pointers and System V calls. There is no archive for this target."
+#error "libfastpair.a is for x86-64 with 64-bit pointers and System V calls. There is no archive for this target."
 #else
 #if defined(__cplusplus)
 #define FP_LAYOUT(what) static_assert(what, #what)

@@ -1,8 +1,8 @@
 #!/usr/bin/env python3
 """What the program `vectors` must print, computed by other implementations.
 
-SHA-256 comes from Python's hashlib and AES-128 from the command `openssl`; payloads and stored lists
-are computed by document 01's formulas. A result that a document publishes stands here too, and must
+SHA-256 comes from Python's hashlib and AES-128 from the command `openssl`; the payloads of published
+keys are computed by document 01's formulas. A result that a document publishes stands here too, and must
 equal what was computed. None of this reads our code. Without an option it writes crates/vectors/stdout.
 """
 import argparse
@@ -52,7 +52,7 @@ def main():
 
 
 def all_lines():
-    return hash_lines() + cipher_lines() + fast_pair_lines() + payload_lines() + stored_list_lines()
+    return hash_lines() + cipher_lines() + fast_pair_lines() + filter_lines()
 
 
 def check(text):
@@ -101,45 +101,22 @@ def fast_pair_lines():
     ) + [("Fast Pair SHA-256 of the ECDH secret", hashed), ("Fast Pair anti-spoofing AES key", hashed[:32])]
 
 
-# Document 01, "Advertising", with the model and salt of its samples and tables.
-def payload_lines():
-    none, five = [], [owner(n) for n in range(1, 6)]
+# Document 01, "Advertising", with the model and salt of its samples: published keys, shown in an output of 24 bytes EE.
+def filter_lines():
     one = keys("11223344556677889900aabbccddeeff")
     two = keys("11112222333344445555666677778888", "99990000aaaabbbbccccddddeeeeffff")
     published(account_key_filter(one, SALT).hex(), "020c802a")
     published(account_key_filter(two, SALT).hex(), "09e660009f")
     published(account_key_filter(one, b"\xc7").hex(), "0a428810")
-    published(payload(False, none, 0).hex(), "05162cfe0000")
-    published(payload(True, none, 0).hex(), "06162cfe123456")
-    published(str(len(payload(False, five, 0))), "18")
-    asked = [
-        ("payload, pairing mode", True, none, 0, 24),
-        ("payload, no key", False, none, 0, 24),
-        ("payload, pairing mode with keys", True, five, 2, 24),
-        ("payload, one key", False, one, 0, 24),
-        ("payload, two keys", False, two, 0, 24),
-        ("payload, five keys, show", False, five, 0, 18),
-        ("payload, five keys, hide", False, five, 2, 24),
-        ("payload, pairing mode, 6 bytes of room", True, none, 0, 6),
-        ("payload, no key, 5 bytes of room", False, none, 0, 5),
-        ("payload, five keys, 17 bytes of room", False, five, 0, 17),
-        ("payload, five keys, no room", False, five, 0, 0),
-    ]
-    return [line for name, on, held, prompt, room in asked for line in lent(name, payload(on, held, prompt), room, 24)]
+    return [(f"payload, {name}", payload(held).ljust(24, b"\xee").hex()) for name, held in (("one key", one), ("two keys", two))]
 
 
-MODEL, SALT = bytes.fromhex("123456"), bytes.fromhex("c7c8")
+SALT = bytes.fromhex("c7c8")
 
 
-def payload(pairing, held, prompt):
-    if pairing:
-        data = MODEL
-    elif held:
-        s = filter_size(len(held))
-        data = bytes([0x00, s * 16 + prompt]) + account_key_filter(held, SALT) + bytes([0x21]) + SALT
-    else:
-        data = bytes(2)
-    rest = bytes([0x16, 0x2C, 0xFE]) + data
+def payload(held):
+    s = filter_size(len(held))
+    rest = bytes([0x16, 0x2C, 0xFE, 0x00, s * 16]) + account_key_filter(held, SALT) + bytes([0x21]) + SALT
     return bytes([len(rest)]) + rest
 
 
@@ -157,88 +134,8 @@ def account_key_filter(held, salt):
     return bits.to_bytes(s, "little")
 
 
-# Document 01, "Stored list".
-def stored_list_lines():
-    first, other = b"\x04first owner key", b"\x04other owner key"
-    numbered = [b"\x04owner key no 0%d" % n for n in range(1, 7)]
-    two = [owner(1), owner(2)]
-    published(stored([]).hex(), "00020100")
-    lines = [
-        line
-        for name, text, room in [
-            ("stored list, no key", stored([]), 86),
-            ("stored list, two keys", stored(two), 86),
-            ("stored list, two keys, 35 bytes of room", stored(two), 35),
-            ("stored list, first key stored again", stored(two), 86),
-            ("stored list, six keys stored", stored([owner(n) for n in range(2, 7)]), 86),
-        ]
-        for line in lent(name, text, room, 86)
-    ]
-    for name, text, held in [
-        ("no key", stored([]), []),
-        ("two keys", stored([first, other]), [first, other]),
-        ("five keys", stored(numbered[:5]), numbered[:5]),
-        ("no byte", b"", None),
-        ("no count", bytes.fromhex("000101"), None),
-        ("length too small", stored([first], length=17), None),
-        ("length too large", stored([first], length=19), None),
-        ("version 2", stored([first], version=2), None),
-        ("six keys", stored(numbered), None),
-        ("count too small", stored([first], count=0), None),
-        ("count too large", stored([first], count=2), None),
-        ("key cut", stored([first[:15]], length=17), None),
-        ("byte after it", stored([first]) + bytes(1), None),
-        ("byte after it, counted", stored([first], length=19) + bytes(1), None),
-        ("key of another kind", stored([b"\x05" + first[1:]]), None),
-        ("second key of another kind", stored([first, b"\x03" + other[1:]]), None),
-        ("key twice", stored([first, first]), None),
-        ("key twice, not in a row", stored([first, other, first]), None),
-    ]:
-        lines += read(f"read list, {name}", text, held)
-    return lines
-
-
-def stored(held, length=None, version=1, count=None):
-    n = len(held)
-    header = struct.pack(">HBB", 2 + 16 * n if length is None else length, version, n if count is None else count)
-    return header + b"".join(held)
-
-
-# What reading a list must give: `held`, or no keys where the list is malformed. The rules of document 01 decide it again.
-def read(name, text, held):
-    if held != keys_of(text):
-        sys.exit(f"{name}: document 01's rules give {keys_of(text)}")
-    if held is None:
-        return [(name, "0e00")]
-    places = (held + [bytes(16)] * 2)[:2]
-    return [(name, bytes([0, len(held)]).hex())] + [(name, key.hex()) for key in places]
-
-
-def keys_of(text):
-    if len(text) < 4 or int.from_bytes(text[:2], "big") != len(text) - 2 or text[2] != 1:
-        return None
-    n, body = text[3], text[4:]
-    held = [body[i:i + 16] for i in range(0, len(body), 16)]
-    if n > 5 or len(body) != 16 * n or any(key[0] != 4 for key in held) or len(set(held)) != n:
-        return None
-    return held
-
-
-# An account key for the program's lists.
-def owner(n):
-    return bytes([0x04] + [n] * 15)
-
-
 def keys(*texts):
     return [bytes.fromhex(text) for text in texts]
-
-
-# The answer number with the length, and an output of `size` bytes EE of which the first `room` are lent.
-def lent(name, text, room, size):
-    fits = len(text) <= room
-    answer = bytes([0, len(text)]) if fits else bytes([13, 0])
-    out = (text if fits else b"").ljust(size, b"\xee")
-    return [(name, answer.hex()), (name, out.hex())]
 
 
 # A published block, both ways.

@@ -29,7 +29,8 @@ unfolding addRoundKey
 addRoundKey-block {s} k p q =
     record {
       long = refl;
-      bytes = state-lt (λ r c. at s r c ⊕ at k r c) (λ r c. xor-lt 8 (at s r c) (at k r c) (p .bytes (r + 4 * c)) (q (r + 4 * c)));
+      bytes = state-lt (λ r c. at s r c ⊕ at k r c)
+          (λ r c. xor-lt 8 (at s r c) (at k r c) (p .bytes (r + 4 * c)) (q (r + 4 * c)));
     }
 
 subBytes-block : {s : List ℕ} → Block s → Block (subBytes s)
@@ -92,9 +93,11 @@ module _ (w : List (List ℕ)) (block : List ℕ) (hw : (n : ℕ) → Bytes (get
   rounds-block : (n : ℕ) → Block (rounds w block n)
   unfolding rounds
   rounds-block zero = hb
-  rounds-block (suc n) = addRoundKey-block (getD w (suc n) []) (mixColumns-block (shiftSub-block (rounds-block n))) (hw (suc n))
+  rounds-block (suc n) = addRoundKey-block (getD w (suc n) []) (mixColumns-block (shiftSub-block (rounds-block n)))
+      (hw (suc n))
 
-  addRoundKey-back : (n : ℕ) → addRoundKey (rounds w block (suc n)) (getD w (suc n) []) ≡ mixColumns (shiftSub (rounds w block n))
+  addRoundKey-back : (n : ℕ) → addRoundKey (rounds w block (suc n)) (getD w (suc n) []) ≡ mixColumns
+      (shiftSub (rounds w block n))
   unfolding rounds
   addRoundKey-back n =
       addRoundKey-twice (mixColumns (shiftSub (rounds w block n))) (getD w (suc n) [])
@@ -104,7 +107,8 @@ module _ (w : List (List ℕ)) (block : List ℕ) (hw : (n : ℕ) → Bytes (get
       → invMixColumns (addRoundKey (invSubBytes (invShiftRows (shiftSub (rounds w block (suc n))))) (getD w (suc n) []))
       ≡ shiftSub (rounds w block n)
   round-back n =
-      ap (λ s. invMixColumns (addRoundKey s (getD w (suc n) []))) (shiftSub-back (rounds w block (suc n)) (rounds-block (suc n)))
+      ap (λ s. invMixColumns (addRoundKey s (getD w (suc n) [])))
+      (shiftSub-back (rounds w block (suc n)) (rounds-block (suc n)))
       ∙ ap invMixColumns (addRoundKey-back n)
       ∙ invMixColumns-mixColumns (shiftSub (rounds w block n)) (shiftSub-block (rounds-block n))
 
@@ -134,4 +138,5 @@ invCipherBy-cipherBy w block hw hb =
 pub decrypt-undoes-encrypt : Undoes
 unfolding cipher invCipher
 decrypt-undoes-encrypt key block hk hb =
-    invCipherBy-cipherBy (keyExpansion key) block (tabulate-all Bytes 11 (roundKey key) [] (λ i. lit< tt) (roundKey-lt key (hk .bytes))) hb
+    invCipherBy-cipherBy (keyExpansion key) block
+    (tabulate-all Bytes 11 (roundKey key) [] (λ i. lit< tt) (roundKey-lt key (hk .bytes))) hb

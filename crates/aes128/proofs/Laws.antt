@@ -78,7 +78,13 @@ module _ (w x y z : ℕ) (s : List ℕ) where
       → at (scaled w s) i c ⊕ (at (scaled x s) j c ⊕ (at (scaled y s) k c ⊕ at (scaled z s) l c))
       ≡ w • at s i c ⊕ x • at s j c ⊕ y • at s k c ⊕ z • at s l c
   scaled-sum i j k l c hc hi hj hk hl =
-      rw (scaled-at w s i c (lit< hi) hc, scaled-at x s j c (lit< hj) hc, scaled-at y s k c (lit< hk) hc, scaled-at z s l c (lit< hl) hc)
+      rw (
+        scaled-at w s i c (lit< hi) hc,
+        scaled-at x s j c (lit< hj) hc,
+        scaled-at y s k c (lit< hk) hc,
+        scaled-at z
+            s l c (lit< hl) hc,
+      )
       (xor-assoc4 (w • at s i c) (x • at s j c) (y • at s k c) (z • at s l c))
 
   rotated-mix : rotatedSum (scaled w s) (scaled x s) (scaled y s) (scaled z s) ≡ mixBy (circulant w x y z) s
@@ -91,7 +97,8 @@ module _ (w x y z : ℕ) (s : List ℕ) where
       (scaled-sum 2 3 0 1 c hc tt tt tt tt
       ∙ xor-rotate4 (w • at s 2 c) (x • at s 3 c) (y • at s 0 c) (z • at s 1 c)
       ∙ xor-rotate4 (z • at s 1 c) (w • at s 2 c) (x • at s 3 c) (y • at s 0 c))
-      (scaled-sum 3 0 1 2 c hc tt tt tt tt ∙ sym (xor-rotate4 (x • at s 0 c) (y • at s 1 c) (z • at s 2 c) (w • at s 3 c))) r hr)
+      (scaled-sum 3 0 1 2 c hc tt tt tt tt ∙ sym
+      (xor-rotate4 (x • at s 0 c) (y • at s 1 c) (z • at s 2 c) (w • at s 3 c))) r hr)
     where
       sums : ℕ → ℕ → ℕ
       sums r c =
@@ -153,7 +160,8 @@ unfolding cipher cipherBy
 cipher-made key block i e f p h q r u = rw (u, r, q, p, f, e, h)
 
 pub invRounds-more : (w : List (List ℕ)) (i : ℕ) (s : List ℕ) {a b c d t : List ℕ} → 0 < i → invRounds w i s ≡ t
-    → a ≡ invShiftRows s → b ≡ invSubBytes a → c ≡ addRoundKey b (getD w i []) → d ≡ invMixColumns c → invRounds w (i - 1) d ≡ t
+    → a ≡ invShiftRows s → b ≡ invSubBytes a → c ≡ addRoundKey b (getD w i []) → d ≡ invMixColumns c → invRounds w
+    (i - 1) d ≡ t
 unfolding invRounds
 invRounds-more w zero s h p q r u v = absurd (not-suc-le-zero h)
 invRounds-more w (suc i) s h p q r u v = let e : suc i - 1 ≡ i = omega arith in rw (v, u, r, q, e) p

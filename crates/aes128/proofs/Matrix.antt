@@ -33,9 +33,11 @@ sum4-transpose : (a b c d : ℕ → ℕ)
 sum4-transpose a b c d =
     sym
     (add (λ k. a k ⊕ b k ⊕ c k) d
-    ∙ ap (λ x. x ⊕ sum4 (d 0) (d 1) (d 2) (d 3)) (add (λ k. a k ⊕ b k) c ∙ ap (λ x. x ⊕ sum4 (c 0) (c 1) (c 2) (c 3)) (add a b)))
+    ∙ ap (λ x. x ⊕ sum4 (d 0) (d 1) (d 2) (d 3))
+    (add (λ k. a k ⊕ b k) c ∙ ap (λ x. x ⊕ sum4 (c 0) (c 1) (c 2) (c 3)) (add a b)))
   where
-    add : (f g : ℕ → ℕ) → sum4 (f 0 ⊕ g 0) (f 1 ⊕ g 1) (f 2 ⊕ g 2) (f 3 ⊕ g 3) ≡ sum4 (f 0) (f 1) (f 2) (f 3) ⊕ sum4 (g 0) (g 1) (g 2) (g 3)
+    add : (f g : ℕ → ℕ) → sum4 (f 0 ⊕ g 0) (f 1 ⊕ g 1) (f 2 ⊕ g 2) (f 3 ⊕ g 3) ≡ sum4 (f 0) (f 1) (f 2) (f 3) ⊕ sum4
+        (g 0) (g 1) (g 2) (g 3)
     add f g = sum4-add (f 0) (f 1) (f 2) (f 3) (g 0) (g 1) (g 2) (g 3)
 
 mul-sum4 : (n a b c d : ℕ) → n • sum4 a b c d ≡ sum4 (n • a) (n • b) (n • c) (n • d)
@@ -71,7 +73,8 @@ entry-additive r k =
     record {
       adds = λ a b.
           sum4-eq (term-add r k 0 a b) (term-add r k 1 a b) (term-add r k 2 a b) (term-add r k 3 a b)
-          ∙ sum4-add (term r k 0 a) (term r k 1 a) (term r k 2 a) (term r k 3 a) (term r k 0 b) (term r k 1 b) (term r k 2 b) (term r k 3 b);
+          ∙ sum4-add (term r k 0 a) (term r k 1 a) (term r k 2 a) (term r k 3 a) (term r k 0 b) (term r k 1 b)
+          (term r k 2 b) (term r k 3 b);
     }
 
 -- x in its own row, and nothing in another
@@ -115,7 +118,8 @@ row-product r hr x hx =
     ∙ sum4-transpose (λ k. term r k 0 (x k)) (λ k. term r k 1 (x k)) (λ k. term r k 2 (x k)) (λ k. term r k 3 (x k))
     ∙ sum4-eq (unit-at 0 tt) (unit-at 1 tt) (unit-at 2 tt) (unit-at 3 tt)
   where
-    part : (j : ℕ) → inv r j • times (getD mixMatrix j []) x ≡ sum4 (term r 0 j (x 0)) (term r 1 j (x 1)) (term r 2 j (x 2)) (term r 3 j (x 3))
+    part : (j : ℕ) → inv r j • times (getD mixMatrix j []) x ≡ sum4 (term r 0 j (x 0)) (term r 1 j (x 1))
+        (term r 2 j (x 2)) (term r 3 j (x 3))
     part j = mul-sum4 (inv r j) (mix j 0 • x 0) (mix j 1 • x 1) (mix j 2 • x 2) (mix j 3 • x 3)
 
     unit-at : (k : ℕ) → T (ltb k 4) → entry r k (x k) ≡ unit (eqb r k) (x k)

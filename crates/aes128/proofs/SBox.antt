@@ -35,7 +35,8 @@ tested = tt
 
 passed : (b : ℕ) → b < 256 → (k : ℕ) → T (getD (tests b (getD sBoxTable b 0) (getD invSBoxTable b 0) (inverse b)) k true)
 unfolding right
-passed b h k = all-at (tests b (getD sBoxTable b 0) (getD invSBoxTable b 0) (inverse b)) (every-at right sBoxTable tested b h) k
+passed b h k = all-at (tests b (getD sBoxTable b 0) (getD invSBoxTable b 0) (inverse b))
+    (every-at right sBoxTable tested b h) k
 
 -- the first table has SBOX
 sBox-table : (b : ℕ) → b < 256 → getD sBoxTable b 0 ≡ sBox b
@@ -88,4 +89,5 @@ follow-the-rule = record { entries = (refl, refl); first = sBox-table; second = 
 -- INVSBOX undoes SBOX
 pub invSBox-sBox : (b : ℕ) → b < 256 → invSBox (sBox b) ≡ b
 invSBox-sBox b h =
-    sym (invSBox-table (sBox b) (sBox-lt b h)) ∙ ap (λ x. getD invSBoxTable x 0) (sym (sBox-table b h)) ∙ second-undoes-first b h
+    sym (invSBox-table (sBox b) (sBox-lt b h)) ∙ ap (λ x. getD invSBoxTable x 0) (sym (sBox-table b h)) ∙
+    second-undoes-first b h

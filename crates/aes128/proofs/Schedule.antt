@@ -32,11 +32,14 @@ pub roundKey-next : (key : List ℕ) (n : ℕ) → roundKey key (suc n) ≡ next
 unfolding roundKey
 roundKey-next key n =
     nextRoundKey-columns (word key (4 * n)) (word key (4 * n + 1)) (word key (4 * n + 2)) (word key (4 * n + 3))
-    (word key (4 * suc n)) (word key (4 * suc n + 1)) (word key (4 * suc n + 2)) (word key (4 * suc n + 3)) (xPower (suc n - 1))
+    (word key (4 * suc n)) (word key (4 * suc n + 1)) (word key (4 * suc n + 2)) (word key (4 * suc n + 3))
+    (xPower (suc n - 1))
     (word-step key (4 * n) (4 * n + 3) (4 * suc n) 0 (suc n) (omega arith) (omega arith) (omega arith) (omega arith))
     (word-step key (4 * n + 1) (4 * suc n) (4 * suc n + 1) 1 (suc n) (omega arith) (omega arith) (omega arith) (omega arith))
-    (word-step key (4 * n + 2) (4 * suc n + 1) (4 * suc n + 2) 2 (suc n) (omega arith) (omega arith) (omega arith) (omega arith))
-    (word-step key (4 * n + 3) (4 * suc n + 2) (4 * suc n + 3) 3 (suc n) (omega arith) (omega arith) (omega arith) (omega arith))
+    (word-step key (4 * n + 2) (4 * suc n + 1) (4 * suc n + 2) 2 (suc n) (omega arith) (omega arith) (omega arith)
+    (omega arith))
+    (word-step key (4 * n + 3) (4 * suc n + 2) (4 * suc n + 3) 3 (suc n) (omega arith) (omega arith) (omega arith)
+    (omega arith))
     ∙ ap (λ i. nextRoundKey (roundKey key n) (xPower i)) (omega arith)
 
 -- a list of bytes
@@ -45,7 +48,8 @@ Bytes l = (i : ℕ) → getD l i 0 < 256
 
 xorWord-lt : (a b : List ℕ) → Bytes a → Bytes b → Bytes (xorWord a b)
 xorWord-lt a b p q =
-    tabulate-all (λ x. x < 256) 4 (λ i. getD a i 0 ⊕ getD b i 0) 0 (lit< tt) (λ i. xor-lt 8 (getD a i 0) (getD b i 0) (p i) (q i))
+    tabulate-all (λ x. x < 256) 4 (λ i. getD a i 0 ⊕ getD b i 0) 0 (lit< tt)
+    (λ i. xor-lt 8 (getD a i 0) (getD b i 0) (p i) (q i))
 
 subRot-lt : (a : List ℕ) → Bytes a → Bytes (subWord (rotWord a))
 subRot-lt a p =

@@ -13,7 +13,8 @@ use Rattle.aes128.specs.State.{at, state}
 
 pub state-ext : (f g : ℕ → ℕ → ℕ) → ((r c : ℕ) → r < 4 → c < 4 → f r c ≡ g r c) → state f ≡ state g
 state-ext f g e =
-    tabulate-ext 16 (λ i. f (i % 4) (i / 4)) (λ i. g (i % 4) (i / 4)) (λ i h. e (i % 4) (i / 4) (mod-lt i (lit< tt)) (omega arith))
+    tabulate-ext 16 (λ i. f (i % 4) (i / 4)) (λ i. g (i % 4) (i / 4))
+    (λ i h. e (i % 4) (i / 4) (mod-lt i (lit< tt)) (omega arith))
 
 pub at-state : (f : ℕ → ℕ → ℕ) (r c : ℕ) → r < 4 → c < 4 → at (state f) r c ≡ f r c
 at-state f r c hr hc =

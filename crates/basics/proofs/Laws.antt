@@ -1,6 +1,6 @@
 -- Laws of the comparison of byte strings.
 -- Assumes nothing.
-use mathlib.Core.Bool.{Bool, true, false}
+use mathlib.Core.Bool.{Bool, true, false, _&&_}
 use mathlib.Core.List.{List, [], _∷_}
 use mathlib.Core.Path.{_≡_, refl, sym, ap₂, _∙_}
 use Prim.Native.Nat.{ℕ, _+_, _<_, _≤_}
@@ -35,12 +35,18 @@ same-long (x ∷ xs) (y ∷ ys) h = rw (same-long xs ys (λ e. h (omega arith)))
     and-false true = refl
     and-false false = refl
 
-pub same-step : (a b : List ℕ) (i : ℕ) → i < length a → i < length b
-    → same (drop i a) (drop i b) ≡ (eqb (getD a i 0) (getD b i 0) and same (drop (i + 1) a) (drop (i + 1) b))
-same-step a b i h k = rw (drop-more a i 0 h, drop-more b i 0 k)
+-- one byte more: `equal` says whether those before it are equal
+pub same-more : (equal : Bool) (a b : List ℕ) (i : ℕ) → i < length a → i < length b
+    → ((equal && eqb (getD a i 0) (getD b i 0)) and same (drop (i + 1) a) (drop (i + 1) b))
+    ≡ (equal and same (drop i a) (drop i b))
+same-more false a b i h k = refl
+same-more true a b i h k = rw (drop-more a i 0 h, drop-more b i 0 k)
 
-pub same-end : (a b : List ℕ) (i : ℕ) → length a ≤ i → length b ≤ i → same (drop i a) (drop i b) ≡ true
-same-end a b i h k = rw (drop-of-length-le a h, drop-of-length-le b k)
+-- no byte is left
+pub same-end : (equal : Bool) (a b : List ℕ) (i : ℕ) → length a ≤ i → length b ≤ i
+    → equal ≡ (equal and same (drop i a) (drop i b))
+same-end false a b i h k = refl
+same-end true a b i h k = rw (drop-of-length-le a h, drop-of-length-le b k)
 
 eqb-comm : (x y : ℕ) → eqb x y ≡ eqb y x
 eqb-comm x y = go (eqb x y) refl

@@ -97,21 +97,21 @@ pub fn written(length: usize) -> Report
     }
 }
 
-// Whether two byte strings are equal: addresses, salts and keys are compared here.
+// Whether two byte strings are equal: addresses, salts and keys are compared here. Every byte is looked at, whatever the first
+// ones are: a loop left at the first difference would tell by its time how much of a key was guessed.
 pub fn same(a: &[u8], b: &[u8]) -> bool
     ensures { λ r. ⌜ r ≡ spec.same (now (a .entry)) (now (b .entry)) ⌝ }
 {
     if a.len() != b.len() {
         return false;
     }
+    let mut equal = true;
     let mut i = 0;
     while i < a.len() {
-        if a[i] != b[i] {
-            return false;
-        }
+        equal = equal & (a[i] == b[i]);
         i += 1;
     }
-    true
+    equal
 }
 
 // The sixteen bytes of `src` from `at` on.

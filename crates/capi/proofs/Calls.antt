@@ -1,4 +1,4 @@
--- Demand 3 of calls: what holds of the rules holds of what firmware sees of them.
+-- Calls are steps; and demand 3 of calls: what holds of the rules holds of what firmware sees of them.
 -- Assumes nothing.
 use mathlib.Core.Bool.{Bool, true, false}
 use mathlib.Core.List.{List, [], _∷_}
@@ -10,23 +10,37 @@ use Rattle.account_keys.specs.StoredList.{storedListMax}
 use Rattle.account_keys.specs.declared.AccountKey.{AccountKey}
 use Rattle.basics.proofs.Answers.{number-taken}
 use Rattle.basics.specs.Answers.{answerNumber}
-use Rattle.capi.proofs.ReadsBack.{any-bytes, call-is-step}
+use Rattle.packed.proofs.ReadsBack.{packed-reads-back}
 use Rattle.capi.specs.Calls.{served, lentBack, returned}
-use Rattle.capi.specs.Demands.{calls, CallsOnlyTakeAway}
-use Rattle.capi.specs.Packed.{packed, packedReply, packedOutcome, isDevice, deviceOf}
-use Rattle.capi.specs.declared.FpDevice.{FpDevice}
-use Rattle.capi.specs.declared.FpOutcome.{FpOutcome}
-use Rattle.capi.specs.declared.FpReply.{FpReply}
+use Rattle.capi.specs.Demands.{CallIsStep, afterCalls, CallsAreSteps, calls, CallsOnlyTakeAway}
+use Rattle.packed.specs.Packed.{packed, packedReply, packedOutcome, isDevice, deviceOf}
+use Rattle.packed.specs.declared.FpDevice.{FpDevice}
+use Rattle.packed.specs.declared.FpOutcome.{FpOutcome}
+use Rattle.packed.specs.declared.FpReply.{FpReply}
 use Rattle.laws.proofs.Padded.{take-padded}
 use Rattle.laws.specs.Choice.{if_then_else_}
 use Rattle.provider.proofs.Theorems.Gap.{gap-only-takes-away}
 use Rattle.provider.proofs.Theorems.Validity.{stays-valid, starts-valid}
 use Rattle.provider.specs.Demands.Gap.{Marked, done, same, added, rules, Lists, Stores, Alike, Lost, Compared, Parting, TwoRuns, Accepts, Quiet, QuietUntilRequest, AfterMarkers, isOf, isRequest, needsKey, anyKind}
 use Rattle.provider.specs.Demands.Validity.{Valid, written}
-use Rattle.provider.specs.Rules.Event.{Event, Overflow, PowerOn, lent, step, next, answerOf}
+use Rattle.provider.specs.Rules.Event.{Event, Overflow, PowerOn, lent, step, next, answerOf, after}
 use Rattle.provider.specs.declared.Device.{Device}
 use Rattle.provider.specs.declared.Reply.{Reply}
 use Rattle.provider.specs.declared.Start.{Start}
+
+-- ---- a call is a step
+
+pub call-is-step : CallIsStep
+unfolding served lentBack
+call-is-step d e v =
+    let back = packed-reads-back d v in (rw (back .0, back .1), rw (back .0, back .1))
+
+pub calls-are-steps : CallsAreSteps
+unfolding afterCalls after
+calls-are-steps d [] v = refl
+calls-are-steps d (e ∷ es) v =
+    ap (λ (o : FpOutcome). afterCalls (o .next) es) (call-is-step d e v .0)
+    ∙ calls-are-steps (next d e) es (stays-valid d e v)
 
 -- ---- what is seen of a call is what is seen of the rules' step
 

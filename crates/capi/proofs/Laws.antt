@@ -7,13 +7,13 @@ use mathlib.Core.Path.{_≡_, refl, sym, ap, _∙_}
 use Prim.Native.Nat.{ℕ}
 use Rattle.basics.specs.Output.{reportOf, placed}
 use Rattle.basics.specs.declared.Report.{Report}
-use Rattle.capi.proofs.ReadsBack.{any-bytes}
+use Rattle.packed.proofs.ReadsBack.{any-bytes}
 use Rattle.capi.specs.Calls.{returned, noReport, served, lentBack, told, writtenTo}
-use Rattle.capi.specs.Packed.{isDevice, deviceOf, packedOutcome, packedReport}
-use Rattle.capi.specs.declared.FpDevice.{FpDevice}
-use Rattle.capi.specs.declared.FpOutcome.{FpOutcome}
-use Rattle.capi.specs.declared.FpReport.{FpReport}
-use Rattle.capi.specs.declared.Unpacked.{Unpacked}
+use Rattle.packed.specs.Packed.{isDevice, deviceOf, packedOutcome, packedReport}
+use Rattle.packed.specs.declared.FpDevice.{FpDevice}
+use Rattle.packed.specs.declared.FpOutcome.{FpOutcome}
+use Rattle.packed.specs.declared.FpReport.{FpReport}
+use Rattle.packed.specs.declared.Unpacked.{Unpacked}
 use Rattle.provider.proofs.Theorems.Validity.{stays-valid}
 use Rattle.provider.specs.Demands.Validity.{Valid}
 use Rattle.provider.specs.Rules.Event.{Event, lent, step}

@@ -1,27 +1,18 @@
 -- What C may count on, as statements; proofs/ has a proof of each.
 -- Assumes nothing.
-use mathlib.Core.Bool.{true}
 use mathlib.Core.List.{List, [], _∷_}
 use mathlib.Core.Path.{_≡_}
 use Prim.Native.Nat.{ℕ}
 use lib.ListN.{take}
 use Rattle.capi.specs.Calls.{served, lentBack}
-use Rattle.capi.specs.Packed.{packed, isDevice, deviceOf, packedOutcome}
-use Rattle.capi.specs.declared.FpDevice.{FpDevice}
-use Rattle.capi.specs.declared.FpReply.{FpReply}
+use Rattle.packed.specs.Packed.{packed, packedOutcome}
+use Rattle.packed.specs.declared.FpDevice.{FpDevice}
+use Rattle.packed.specs.declared.FpReply.{FpReply}
 use Rattle.provider.specs.Demands.Gap.{Observed, OnlyTakesAway}
 use Rattle.provider.specs.Demands.Validity.{Valid}
 use Rattle.provider.specs.Rules.Event.{Event, PowerOn, step, after}
 use Rattle.provider.specs.declared.Device.{Device}
 use Rattle.provider.specs.declared.Start.{Start}
-
--- a device that was handed out is known when it is handed in, and is read as the same device
-abbrev pub ReadsBack : Type 0
-ReadsBack = (d : Device) → Valid d → (isDevice (packed d) ≡ true) × (deviceOf (packed d) ≡ d)
-
--- any bytes are read as a valid device, those that are not served as the value before any, so that no call needs a check first
-abbrev pub AnyBytes : Type 0
-AnyBytes = (f : FpDevice) → Valid (deviceOf f)
 
 -- a call from C is one step of document 01's rules
 abbrev pub CallIsStep : Type 0

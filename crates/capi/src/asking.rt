@@ -1,12 +1,11 @@
 // The two questions that change nothing, for C.
-use crate::FpDevice;
-use crate::FpReport;
-use crate::pack;
-use crate::unpack;
 use advertising::Prompt;
+use packed::FpDevice;
+use packed::FpReport;
+use packed::pack;
+use packed::unpack;
 ghost use mathlib.Core.Path.{_≡_};
-ghost use Rattle.capi.specs.Calls.{told, writtenTo};
-ghost use Rattle.capi.specs.Packed.{promptOf};
+ghost use Rattle.capi.specs.Calls.{promptOf, told, writtenTo};
 ghost use Rattle.provider.specs.Rules.Control.{advertised};
 ghost use Rattle.provider.specs.Demands.Validity.{written};
 
@@ -18,7 +17,7 @@ pub extern "C" fn fp_advertisement(device: FpDevice, hide: u8, out: &mut [u8]) -
 {
     let from = unpack::unpack(device);
     if !from.known {
-        return pack::no_report();
+        return crate::no_report();
     }
     let d = from.device;
     let prompt = read_prompt(hide);
@@ -32,7 +31,7 @@ pub extern "C" fn fp_stored_list(device: FpDevice, out: &mut [u8]) -> FpReport
 {
     let from = unpack::unpack(device);
     if !from.known {
-        return pack::no_report();
+        return crate::no_report();
     }
     let d = from.device;
     pack::pack_report(d.stored_list(out))

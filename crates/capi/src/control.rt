@@ -1,18 +1,18 @@
 // Power-on, the marker, links, pairing mode, rotation and reset, for C.
-use crate::FpDevice;
-use crate::FpOutcome;
-use crate::pack;
-use crate::unpack;
 use basics::Address;
 use basics::Link;
 use basics::Moment;
+use packed::FpDevice;
+use packed::FpOutcome;
+use packed::pack;
+use packed::unpack;
 use provider::Device;
 use provider::Start;
 ghost use mathlib.Core.Path.{_≡_};
 ghost use lib.Dec.{eqb};
 ghost use mathlib.Core.Bool.{not};
 ghost use Rattle.capi.specs.Calls.{served};
-ghost use Rattle.capi.specs.Packed.{packed};
+ghost use Rattle.packed.specs.Packed.{packed};
 ghost use Rattle.provider.specs.Rules.Control.{off};
 ghost use Rattle.provider.specs.Rules.Event.{Overflow, PowerOn, OnDevice, OnLink, PairingMode, AddressRotated, FactoryReset, LinkUp, LinkDown};
 
@@ -30,7 +30,7 @@ pub extern "C" fn fp_power_on(device: FpDevice, stored: &[u8], start: Start) -> 
 {
     let from = unpack::unpack(device);
     if !from.known {
-        return pack::returned(device);
+        return crate::returned(device);
     }
     let d = from.device;
     pack::pack_outcome(d.power_on(stored, start))
@@ -42,7 +42,7 @@ pub extern "C" fn fp_overflow(device: FpDevice) -> FpOutcome
 {
     let from = unpack::unpack(device);
     if !from.known {
-        return pack::returned(device);
+        return crate::returned(device);
     }
     let d = from.device;
     pack::pack_outcome(d.overflow())
@@ -54,7 +54,7 @@ pub extern "C" fn fp_link_up(device: FpDevice, link: u8, clock: u64) -> FpOutcom
 {
     let from = unpack::unpack(device);
     if !from.known {
-        return pack::returned(device);
+        return crate::returned(device);
     }
     let d = from.device;
     pack::pack_outcome(d.link_up(Link(link), Moment(clock)))
@@ -66,7 +66,7 @@ pub extern "C" fn fp_link_down(device: FpDevice, link: u8, clock: u64) -> FpOutc
 {
     let from = unpack::unpack(device);
     if !from.known {
-        return pack::returned(device);
+        return crate::returned(device);
     }
     let d = from.device;
     pack::pack_outcome(d.link_down(Link(link), Moment(clock)))
@@ -79,7 +79,7 @@ pub extern "C" fn fp_pairing_mode(device: FpDevice, on: u8, clock: u64) -> FpOut
 {
     let from = unpack::unpack(device);
     if !from.known {
-        return pack::returned(device);
+        return crate::returned(device);
     }
     let d = from.device;
     pack::pack_outcome(d.pairing_mode(on != 0, Moment(clock)))
@@ -96,7 +96,7 @@ pub extern "C" fn fp_address_rotated(
 {
     let from = unpack::unpack(device);
     if !from.known {
-        return pack::returned(device);
+        return crate::returned(device);
     }
     let d = from.device;
     pack::pack_outcome(d.address_rotated(ble, *salt, Moment(clock)))
@@ -108,7 +108,7 @@ pub extern "C" fn fp_factory_reset(device: FpDevice, clock: u64) -> FpOutcome
 {
     let from = unpack::unpack(device);
     if !from.known {
-        return pack::returned(device);
+        return crate::returned(device);
     }
     let d = from.device;
     pack::pack_outcome(d.factory_reset(Moment(clock)))

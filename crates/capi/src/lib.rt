@@ -1,78 +1,16 @@
-// What C firmware links: one exported function for each event, over plain structs by value. include/fastpair.h is their
-// page for C. A device that C hands in may be any bytes: `unpack` tells whether they are served. Each function begins with it, since
-// C can't hand a device in but as bytes.
+// What C firmware links: one exported function for each event and question. include/fastpair.h is their page for C. C can't hand a
+// device in but as bytes, so each function begins by reading them.
 mod asking;
 mod control;
-mod pack;
 mod pairing_events;
 mod requests;
-mod unpack;
 
-use account_keys::STORED_LIST_MAX;
-use basics::Address;
-use basics::Moment;
-use key_based::Bond;
-use provider::Device;
-use provider::Identity;
-use request_guard::SpentSalts;
-
-// One link: the number of its stage, 0 for idle, and what it holds.
-#[repr(C)]
-pub struct FpSession {
-    pub since: Moment,
-    pub passkey: u32,
-    pub stage: u8,
-    pub key: [u8; 16],
-    pub reserved: [u8; 3],
-}
-
-// The account keys as the stored list, of which the first `length` bytes are in use.
-#[repr(C)]
-pub struct FpStored {
-    pub length: usize,
-    pub bytes: [u8; STORED_LIST_MAX],
-    pub reserved: [u8; 4],
-}
-
-// A device in plain numbers, without a gap between them: what C does not name is reserved and zero.
-#[repr(C)]
-pub struct FpDevice {
-    pub clock: Moment,
-    pub sessions: [FpSession; 8],
-    pub spent: SpentSalts,
-    pub failed: Moment,
-    pub stored: FpStored,
-    pub identity: Identity,
-    pub ble: Address,
-    pub salt: [u8; 2],
-    pub pairing: u8,
-    pub failures: u8,
-    pub reserved: [u8; 5],
-}
-
-// All that an answer hands out; `confirm` is 0 where the radio is asked nothing, 1 for yes, 2 for no.
-#[repr(C)]
-pub struct FpReply {
-    pub answer: u8,
-    pub tried: u8,
-    pub confirm: u8,
-    pub bond: Bond,
-}
-
-#[repr(C)]
-pub struct FpOutcome {
-    pub next: FpDevice,
-    pub reply: FpReply,
-    pub reserved: [u8; 6],
-}
-
-// What became of a text that goes to a lent output, and how many bytes were written.
-#[repr(C)]
-pub struct FpReport {
-    pub length: usize,
-    pub answer: u8,
-    pub reserved: [u8; 7],
-}
+use packed::FpDevice;
+use packed::FpOutcome;
+use packed::FpReply;
+use packed::FpReport;
+ghost use mathlib.Core.Path.{_≡_};
+ghost use Rattle.capi.specs.Calls as calls;
 
 // What the secure element made of the public key in an 80-byte request; `accepted` is 0 for a rejected point.
 #[repr(C)]
@@ -81,8 +19,31 @@ pub struct FpElement {
     pub secret: [u8; 32],
 }
 
-// What was handed in, read as a device; `device` is `off` where the bytes are not served.
-pub struct Unpacked {
-    pub known: bool,
-    pub device: Device,
+// The answer to bytes that are not served, none of document 01's numbers.
+const NOT_A_DEVICE: u8 = 255;
+
+// The outcome of bytes that are not served: they come back as they were.
+fn returned(device: FpDevice) -> FpOutcome
+    ensures { λ r. ⌜ r ≡ calls.returned device ⌝ }
+{
+    FpOutcome {
+        next: device,
+        reply: FpReply {
+            answer: NOT_A_DEVICE,
+            tried: 0,
+            confirm: 0,
+            bond: key_based::no_bond(),
+        },
+        reserved: [0u8; 6],
+    }
+}
+
+fn no_report() -> FpReport
+    ensures { λ r. ⌜ r ≡ calls.noReport ⌝ }
+{
+    FpReport {
+        length: 0,
+        answer: NOT_A_DEVICE,
+        reserved: [0u8; 7],
+    }
 }

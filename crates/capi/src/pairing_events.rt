@@ -1,10 +1,10 @@
 // Pairing events, the passkey write and the account key write, for C.
-use crate::FpDevice;
-use crate::FpOutcome;
-use crate::pack;
-use crate::unpack;
 use basics::Link;
 use basics::Moment;
+use packed::FpDevice;
+use packed::FpOutcome;
+use packed::pack;
+use packed::unpack;
 ghost use mathlib.Core.Path.{_≡_};
 ghost use mathlib.Core.Bool.{not};
 ghost use lib.Dec.{eqb};
@@ -23,7 +23,7 @@ pub extern "C" fn fp_pairing_started(
 {
     let from = unpack::unpack(device);
     if !from.known {
-        return pack::returned(device);
+        return crate::returned(device);
     }
     let d = from.device;
     pack::pack_outcome(d.pairing_started(Link(link), Moment(clock), capability))
@@ -40,7 +40,7 @@ pub extern "C" fn fp_confirmation_needed(
 {
     let from = unpack::unpack(device);
     if !from.known {
-        return pack::returned(device);
+        return crate::returned(device);
     }
     let d = from.device;
     pack::pack_outcome(d.confirmation_needed(Link(link), Moment(clock), passkey))
@@ -60,7 +60,7 @@ pub extern "C" fn fp_passkey_write(
 {
     let from = unpack::unpack(device);
     if !from.known {
-        return pack::returned(device);
+        return crate::returned(device);
     }
     let d = from.device;
     pack::pack_outcome(d.passkey_write(Link(link), Moment(clock), block, *salt, out))
@@ -73,7 +73,7 @@ pub extern "C" fn fp_pairing_ended(device: FpDevice, link: u8, clock: u64, succe
 {
     let from = unpack::unpack(device);
     if !from.known {
-        return pack::returned(device);
+        return crate::returned(device);
     }
     let d = from.device;
     pack::pack_outcome(d.pairing_ended(Link(link), Moment(clock), success != 0))
@@ -90,7 +90,7 @@ pub extern "C" fn fp_account_key_write(
 {
     let from = unpack::unpack(device);
     if !from.known {
-        return pack::returned(device);
+        return crate::returned(device);
     }
     let d = from.device;
     pack::pack_outcome(d.account_key_write(Link(link), Moment(clock), block))

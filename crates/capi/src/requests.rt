@@ -1,15 +1,14 @@
 // The key-based write, for C.
-use crate::FpDevice;
 use crate::FpElement;
-use crate::FpOutcome;
-use crate::pack;
-use crate::unpack;
 use basics::Link;
 use basics::Moment;
 use key_based::Element;
+use packed::FpDevice;
+use packed::FpOutcome;
+use packed::pack;
+use packed::unpack;
 ghost use mathlib.Core.Path.{_≡_};
-ghost use Rattle.capi.specs.Calls.{served, lentBack};
-ghost use Rattle.capi.specs.Packed.{elementOf};
+ghost use Rattle.capi.specs.Calls.{elementOf, lentBack, served};
 ghost use Rattle.provider.specs.Rules.Event.{OnLink, KeyBasedWrite};
 
 #[no_mangle]
@@ -27,7 +26,7 @@ pub extern "C" fn fp_key_based_write(
 {
     let from = unpack::unpack(device);
     if !from.known {
-        return pack::returned(device);
+        return crate::returned(device);
     }
     let d = from.device;
     let point = read_element(element);

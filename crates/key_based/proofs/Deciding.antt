@@ -122,4 +122,5 @@ decided-way c s t element request =
     go false true z w e = unasked
     go false false false w e = no-fit e
     go false false true true e = spent
-    go false false true false e = taken (tried-proper (c .ble) (c .public) (candidates (held (c .keys)) element request) request)
+    go false false true false e = taken
+        (tried-proper (c .ble) (c .public) (candidates (held (c .keys)) element request) request)

@@ -60,7 +60,8 @@ module _ {ℓ} {A : Type ℓ} (n : ℕ) (z : A) where
     -- one more in use: a store in the first free place, and the count that goes with it
     pub set-free-place : (x : A) → c < n → set l c x ≡ padded n z (take c l ++ (x ∷ []))
     set-free-place x h =
-        ap₂ (λ (m : List A) (k : ℕ). set m k x) whole length-in-use ∙ set-padded (take c l) (length (take c l)) x refl (omega (arith, length-in-use))
+        ap₂ (λ (m : List A) (k : ℕ). set m k x) whole length-in-use ∙ set-padded (take c l) (length (take c l)) x refl
+        (omega (arith, length-in-use))
 
     pub count-one-more : (x : A) → c + 1 ≡ length (take c l ++ (x ∷ []))
     count-one-more x = simp length-append (omega (arith, length-in-use))

@@ -15,7 +15,7 @@ use Rattle.aes128.specs.Cipher.{invCipher}
 use Rattle.basics.specs.Answers.{isTaken}
 use Rattle.basics.specs.declared.Answer.the-variants.{Taken, LinkIdle, WrongStage}
 use Rattle.pairing.specs.Pairing.{answered, dropped, inStage, badBlock, notOpened, openedBlock, passkeyOutput, passkeyResponse}
-use Rattle.pairing.specs.declared.Act.{Act}
+use Rattle.pairing.specs.declared.SessionOutcome.{SessionOutcome}
 use Rattle.pairing.specs.declared.Opened.{Opened}
 use Rattle.sessions.specs.Sessions.{isStage}
 use Rattle.sessions.specs.declared.Session.{Session}
@@ -23,7 +23,7 @@ use Rattle.sessions.specs.declared.Stage.{Stage}
 use Rattle.sessions.specs.declared.Stage.the-variants.{Idle}
 
 -- the three ways of a rule in its stage
-module _ (needed : Stage) (rule : Session → Act) (s : Session) where
+module _ (needed : Stage) (rule : Session → SessionOutcome) (s : Session) where
   pub link-idle : isStage (s .stage) Idle ≡ true → inStage needed rule s ≡ answered LinkIdle s
   unfolding inStage
   link-idle h = rw h
@@ -38,15 +38,16 @@ module _ (needed : Stage) (rule : Session → Act) (s : Session) where
   right-stage h k = rw (h, k)
 
 -- a rule in its stage, by the answer a of the stage's check
-module _ (needed : Stage) (rule : Session → Act) (s : Session) {a : Act}
+module _ (needed : Stage) (rule : Session → SessionOutcome) (s : Session) {a : SessionOutcome}
     (e : a ≡ inStage needed (answered Taken) s) where
   pub stage-refused : isTaken (a .answer) ≡ false → a ≡ inStage needed rule s
   unfolding inStage
   stage-refused h = e ∙ go (isStage (s .stage) Idle) (isStage (s .stage) needed)
-      (ap (λ (x : Act). isTaken (x .answer)) (sym e) ∙ h)
+      (ap (λ (x : SessionOutcome). isTaken (x .answer)) (sym e) ∙ h)
     where
       go : (x y : Bool)
-          → isTaken ((if x then answered LinkIdle s else if not y then dropped WrongStage else answered Taken s) .answer) ≡ false
+          → isTaken ((if x then answered LinkIdle s else if not y then dropped WrongStage else answered Taken
+          s) .answer) ≡ false
           → (if x then answered LinkIdle s else if not y then dropped WrongStage else answered Taken s)
           ≡ (if x then answered LinkIdle s else if not y then dropped WrongStage else rule s)
       go true y q = refl
@@ -56,10 +57,11 @@ module _ (needed : Stage) (rule : Session → Act) (s : Session) {a : Act}
   pub stage-passed : isTaken (a .answer) ≡ true → inStage needed rule s ≡ rule s
   unfolding inStage
   stage-passed h = go (isStage (s .stage) Idle) (isStage (s .stage) needed)
-      (ap (λ (x : Act). isTaken (x .answer)) (sym e) ∙ h)
+      (ap (λ (x : SessionOutcome). isTaken (x .answer)) (sym e) ∙ h)
     where
       go : (x y : Bool)
-          → isTaken ((if x then answered LinkIdle s else if not y then dropped WrongStage else answered Taken s) .answer) ≡ true
+          → isTaken ((if x then answered LinkIdle s else if not y then dropped WrongStage else answered Taken
+          s) .answer) ≡ true
           → (if x then answered LinkIdle s else if not y then dropped WrongStage else rule s) ≡ rule s
       go true y q = absurd (true-is q)
       go false false q = absurd (true-is q)
@@ -104,7 +106,7 @@ module _ (first : ℕ) (key block : List ℕ) {o : Opened} (e : o ≡ openedBloc
       go false q = refl
 
 -- the response is written exactly if the answer is 0
-module _ (salt out : List ℕ) (s : Session) (a : Act) where
+module _ (salt out : List ℕ) (s : Session) (a : SessionOutcome) where
   pub output-kept : isTaken (a .answer) ≡ false → passkeyOutput salt out s a ≡ out
   unfolding passkeyOutput
   output-kept h = rw h

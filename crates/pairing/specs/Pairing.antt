@@ -14,7 +14,7 @@ use Rattle.aes128.specs.Cipher.{cipher, invCipher}
 use Rattle.basics.specs.Answers.{isTaken}
 use Rattle.basics.specs.declared.Answer.{Answer}
 use Rattle.basics.specs.declared.Answer.the-variants.{Taken, LinkIdle, WrongStage, CapabilityRefused, BadBlock}
-use Rattle.pairing.specs.declared.Act.{Act}
+use Rattle.pairing.specs.declared.SessionOutcome.{SessionOutcome}
 use Rattle.pairing.specs.declared.Opened.{Opened}
 use Rattle.pairing.specs.declared.Confirm.the-variants.{Unasked, Yes, No}
 use Rattle.sessions.specs.Sessions.{idle, isStage, becomes}
@@ -33,15 +33,15 @@ pub data PairingEvent : Type 0 where
 -- ---- what an event makes of a session
 
 -- an answer that confirms and stores nothing, and the next session
-abbrev pub answered : Answer → Session → Act
+abbrev pub answered : Answer → Session → SessionOutcome
 answered a s = record { answer = a; confirm = Unasked; session = s; stores = false; key = zeroKey }
 
 -- "its K dropped"
-abbrev pub dropped : Answer → Act
+abbrev pub dropped : Answer → SessionOutcome
 dropped a = answered a idle
 
 -- answers 9, "on an idle link", and 10, "link's stage is not the one this event needs"
-unfoldable pub inStage : Stage → (Session → Act) → Session → Act
+unfoldable pub inStage : Stage → (Session → SessionOutcome) → Session → SessionOutcome
 inStage needed rule s =
     if isStage (s .stage) Idle then answered LinkIdle s else
     if not (isStage (s .stage) needed) then dropped WrongStage else
@@ -53,11 +53,11 @@ inStage needed rule s =
 abbrev pub refusedCapability : ℕ → Bool
 refusedCapability c = eqb c 3 or ltb 4 c
 
-abbrev pub begun : ℕ → ℕ → Session → Act
+abbrev pub begun : ℕ → ℕ → Session → SessionOutcome
 begun t c s = if refusedCapability c then dropped CapabilityRefused else answered Taken (becomes Pairing t s)
 
 -- "Pairing started (capability byte): asked to pairing."
-unfoldable pub pairingStarted : ℕ → ℕ → Session → Act
+unfoldable pub pairingStarted : ℕ → ℕ → Session → SessionOutcome
 pairingStarted t c = inStage Asked (begun t c)
 
 -- our passkey, to be confirmed from moment t on
@@ -65,7 +65,7 @@ abbrev pub confirming : ℕ → ℕ → Session → Session
 confirming t passkey s = record { stage = Confirming; key = s .key; since = record { 0 = t }; passkey = passkey }
 
 -- "Confirmation needed (our passkey): pairing to confirming."
-unfoldable pub confirmationNeeded : ℕ → ℕ → Session → Act
+unfoldable pub confirmationNeeded : ℕ → ℕ → Session → SessionOutcome
 confirmationNeeded t passkey = inStage Pairing (λ s. answered Taken (confirming t passkey s))
 
 -- a block that is not 16 bytes, or does not decrypt to the first byte wanted
@@ -85,7 +85,7 @@ abbrev pub passkeyIn : List ℕ → ℕ
 passkeyIn plain = number3 (getD plain 1 0) (getD plain 2 0) (getD plain 3 0)
 
 -- "Equal to ours: reply yes, stage proved. Unequal: reply no, K dropped. Either way the answer is 0"
-unfoldable pub comparedPasskey : ℕ → Session → List ℕ → Act
+unfoldable pub comparedPasskey : ℕ → Session → List ℕ → SessionOutcome
 comparedPasskey t s plain =
     if eqb (passkeyIn plain) (s .passkey) then
     record { answer = Taken; confirm = Yes; session = becomes Proved t s; stores = false; key = zeroKey }
@@ -93,11 +93,11 @@ comparedPasskey t s plain =
     record { answer = Taken; confirm = No; session = idle; stores = false; key = zeroKey }
 
 -- "Passkey write. In confirming, decrypt 16 bytes with K. Byte 0 must be 0x02"
-abbrev pub openedPasskey : ℕ → List ℕ → Session → Act
+abbrev pub openedPasskey : ℕ → List ℕ → Session → SessionOutcome
 openedPasskey t block s =
     if badBlock 0x02 (s .key) block then dropped BadBlock else comparedPasskey t s (invCipher (s .key) block)
 
-unfoldable pub passkeyWrite : ℕ → List ℕ → Session → Act
+unfoldable pub passkeyWrite : ℕ → List ℕ → Session → SessionOutcome
 passkeyWrite t block = inStage Confirming (openedPasskey t block)
 
 -- "the response is 0x03, our passkey (3), event salt (12), encrypted"
@@ -105,37 +105,37 @@ abbrev pub passkeyResponse : Session → List ℕ → List ℕ
 passkeyResponse s salt = cipher (s .key) (0x03 ∷ bytes 3 (s .passkey) ++ salt)
 
 -- "Either way the answer is 0 and the response is ..": it stands in front of the lent output, whose other bytes stay
-unfoldable pub passkeyOutput : List ℕ → List ℕ → Session → Act → List ℕ
+unfoldable pub passkeyOutput : List ℕ → List ℕ → Session → SessionOutcome → List ℕ
 passkeyOutput salt out s a = if isTaken (a .answer) then passkeyResponse s salt ++ drop 16 out else out
 
 -- "Failure: K dropped in any stage, answer 0"
-abbrev pub pairingFailed : Session → Act
+abbrev pub pairingFailed : Session → SessionOutcome
 pairingFailed s = if isStage (s .stage) Idle then answered LinkIdle s else dropped Taken
 
 -- "Pairing ended. Success: proved to paired. Failure: K dropped in any stage, answer 0."
-unfoldable pub pairingEnded : ℕ → Bool → Session → Act
+unfoldable pub pairingEnded : ℕ → Bool → Session → SessionOutcome
 pairingEnded t success s =
     if success then inStage Proved (λ s. answered Taken (becomes Paired t s)) s else pairingFailed s
 
 -- the key in an account key block: it is stored, and K is dropped
-abbrev pub keyStored : List ℕ → Act
+abbrev pub keyStored : List ℕ → SessionOutcome
 keyStored plain = record { answer = Taken; confirm = Unasked; session = idle; stores = true; key = record { bytes = plain } }
 
 -- "In paired, decrypt 16 bytes. Byte 0 must be 0x04 .. K is dropped whatever the answer from 0 or 9 to 12."
-abbrev pub openedAccountKey : List ℕ → Session → Act
+abbrev pub openedAccountKey : List ℕ → Session → SessionOutcome
 openedAccountKey block s =
     if badBlock 0x04 (s .key) block then dropped BadBlock else keyStored (invCipher (s .key) block)
 
-unfoldable pub accountKeyWrite : List ℕ → Session → Act
+unfoldable pub accountKeyWrite : List ℕ → Session → SessionOutcome
 accountKeyWrite block = inStage Paired (openedAccountKey block)
 
 -- what an event makes of a session at moment t
-abbrev pub acts : PairingEvent → ℕ → Session → Act
-acts (PairingStarted capability) t = pairingStarted t capability
-acts (ConfirmationNeeded passkey) t = confirmationNeeded t passkey
-acts (PasskeyWrite block salt out) t = passkeyWrite t block
-acts (PairingEnded success) t = pairingEnded t success
-acts (AccountKeyWrite block) t = accountKeyWrite block
+abbrev pub sessionStep : PairingEvent → ℕ → Session → SessionOutcome
+sessionStep (PairingStarted capability) t = pairingStarted t capability
+sessionStep (ConfirmationNeeded passkey) t = confirmationNeeded t passkey
+sessionStep (PasskeyWrite block salt out) t = passkeyWrite t block
+sessionStep (PairingEnded success) t = pairingEnded t success
+sessionStep (AccountKeyWrite block) t = accountKeyWrite block
 
 -- the lent output as it was beforehand
 abbrev pub lent : PairingEvent → List ℕ
@@ -154,5 +154,5 @@ leaves (PairingEnded success) t s = []
 leaves (AccountKeyWrite block) t s = []
 
 -- the account keys after the event
-abbrev pub storedIn : Act → AccountKeys → AccountKeys
+abbrev pub storedIn : SessionOutcome → AccountKeys → AccountKeys
 storedIn a ks = if a .stores then kept (stored (held ks) (a .key)) else ks

@@ -12,7 +12,7 @@ ghost use lib.ListN.{length};
 ghost use Rattle.account_keys.specs.Keys.{Kept, zeroKey};
 ghost use mathlib.Core.Bool.{false};
 ghost use Rattle.pairing.specs.Pairing as rule;
-ghost use Rattle.pairing.specs.Pairing.{acts, leaves, PairingStarted, ConfirmationNeeded, PasskeyWrite, PairingEnded, AccountKeyWrite};
+ghost use Rattle.pairing.specs.Pairing.{sessionStep, leaves, PairingStarted, ConfirmationNeeded, PasskeyWrite, PairingEnded, AccountKeyWrite};
 
 // Whether the radio is to confirm the passkey.
 pub enum Confirm {
@@ -22,7 +22,7 @@ pub enum Confirm {
 }
 
 // What an event makes of a session; `key` is zero where it stores none.
-pub struct Act {
+pub struct SessionOutcome {
     pub answer: Answer,
     pub confirm: Confirm,
     pub session: Session,
@@ -36,7 +36,7 @@ struct Opened {
     plain: [u8; 16],
 }
 
-impl Act {
+impl SessionOutcome {
     // The account keys after the event.
     pub fn stored_in(self, keys: AccountKeys) -> AccountKeys
         requires { ⌜ Kept keys ⌝ }
@@ -50,13 +50,13 @@ impl Act {
     }
 }
 
-pub fn pairing_started(session: Session, clock: Moment, capability: u8) -> Act
-    ensures { λ r. ⌜ r ≡ acts (PairingStarted capability) (clock .0) session ⌝ }
+pub fn pairing_started(session: Session, clock: Moment, capability: u8) -> SessionOutcome
+    ensures { λ r. ⌜ r ≡ sessionStep (PairingStarted capability) (clock .0) session ⌝ }
 {
-    let act = in_stage(session, Stage::Asked);
-    let answer = act.answer;
+    let outcome = in_stage(session, Stage::Asked);
+    let answer = outcome.answer;
     if !answer.is_taken() {
-        return act;
+        return outcome;
     }
     if is_refused(capability) {
         return dropped(Answer::CapabilityRefused);
@@ -64,13 +64,13 @@ pub fn pairing_started(session: Session, clock: Moment, capability: u8) -> Act
     answered(Answer::Taken, session.moved(Stage::Pairing, clock))
 }
 
-pub fn confirmation_needed(session: Session, clock: Moment, passkey: u32) -> Act
-    ensures { λ r. ⌜ r ≡ acts (ConfirmationNeeded passkey) (clock .0) session ⌝ }
+pub fn confirmation_needed(session: Session, clock: Moment, passkey: u32) -> SessionOutcome
+    ensures { λ r. ⌜ r ≡ sessionStep (ConfirmationNeeded passkey) (clock .0) session ⌝ }
 {
-    let act = in_stage(session, Stage::Pairing);
-    let answer = act.answer;
+    let outcome = in_stage(session, Stage::Pairing);
+    let answer = outcome.answer;
     if !answer.is_taken() {
-        return act;
+        return outcome;
     }
     answered(Answer::Taken, confirming(session, clock, passkey))
 }
@@ -82,42 +82,42 @@ pub fn passkey_write(
     block: &[u8],
     salt: [u8; 12],
     out: &mut [u8],
-) -> Act
+) -> SessionOutcome
     requires { ⌜ 16 ≤ length (now out) ⌝ }
-    ensures { λ r. ⌜ r ≡ acts (PasskeyWrite (now (block .entry)) salt (now (out .entry))) (clock .0) session ⌝ }
+    ensures { λ r. ⌜ r ≡ sessionStep (PasskeyWrite (now (block .entry)) salt (now (out .entry))) (clock .0) session ⌝ }
     ensures { λ r. ⌜ now (out .exit) ≡ leaves (PasskeyWrite (now (block .entry)) salt (now (out .entry))) (clock .0) session ⌝ }
 {
-    let act = passkey_checked(session, clock, block);
-    let answer = act.answer;
+    let outcome = passkey_checked(session, clock, block);
+    let answer = outcome.answer;
     if !answer.is_taken() {
-        return act;
+        return outcome;
     }
     basics::put(out, 0, passkey_response(session, salt));
-    act
+    outcome
 }
 
-pub fn pairing_ended(session: Session, clock: Moment, success: bool) -> Act
-    ensures { λ r. ⌜ r ≡ acts (PairingEnded success) (clock .0) session ⌝ }
+pub fn pairing_ended(session: Session, clock: Moment, success: bool) -> SessionOutcome
+    ensures { λ r. ⌜ r ≡ sessionStep (PairingEnded success) (clock .0) session ⌝ }
 {
     if !success {
         return pairing_failed(session);
     }
-    let act = in_stage(session, Stage::Proved);
-    let answer = act.answer;
+    let outcome = in_stage(session, Stage::Proved);
+    let answer = outcome.answer;
     if !answer.is_taken() {
-        return act;
+        return outcome;
     }
     answered(Answer::Taken, session.moved(Stage::Paired, clock))
 }
 
 // K is dropped, whatever becomes of the block.
-pub fn account_key_write(session: Session, block: &[u8]) -> Act
-    ensures { λ r. ⌜ r ≡ acts (AccountKeyWrite (now (block .entry))) 0 session ⌝ }
+pub fn account_key_write(session: Session, block: &[u8]) -> SessionOutcome
+    ensures { λ r. ⌜ r ≡ sessionStep (AccountKeyWrite (now (block .entry))) 0 session ⌝ }
 {
-    let act = in_stage(session, Stage::Paired);
-    let answer = act.answer;
+    let outcome = in_stage(session, Stage::Paired);
+    let answer = outcome.answer;
     if !answer.is_taken() {
-        return act;
+        return outcome;
     }
     let key = session.key;
     let opened = opened_block(key, block, 0x04);
@@ -129,7 +129,7 @@ pub fn account_key_write(session: Session, block: &[u8]) -> Act
 }
 
 // The check of the stage: the answer is `Taken`, and the session as it was, where it is in the stage that the event needs.
-fn in_stage(session: Session, needed: Stage) -> Act
+fn in_stage(session: Session, needed: Stage) -> SessionOutcome
     ensures { λ r. ⌜ r ≡ rule.inStage needed (rule.answered Answer.Taken) session ⌝ }
 {
     if session.is_in(Stage::Idle) {
@@ -142,7 +142,7 @@ fn in_stage(session: Session, needed: Stage) -> Act
 }
 
 // A failed pairing ends whatever stage the link was in.
-fn pairing_failed(session: Session) -> Act
+fn pairing_failed(session: Session) -> SessionOutcome
     ensures { λ r. ⌜ r ≡ rule.pairingFailed session ⌝ }
 {
     if session.is_in(Stage::Idle) {
@@ -151,13 +151,13 @@ fn pairing_failed(session: Session) -> Act
     dropped(Answer::Taken)
 }
 
-fn passkey_checked(session: Session, clock: Moment, block: &[u8]) -> Act
+fn passkey_checked(session: Session, clock: Moment, block: &[u8]) -> SessionOutcome
     ensures { λ r. ⌜ r ≡ rule.passkeyWrite (clock .0) (now (block .entry)) session ⌝ }
 {
-    let act = in_stage(session, Stage::Confirming);
-    let answer = act.answer;
+    let outcome = in_stage(session, Stage::Confirming);
+    let answer = outcome.answer;
     if !answer.is_taken() {
-        return act;
+        return outcome;
     }
     let key = session.key;
     let opened = opened_block(key, block, 0x02);
@@ -195,7 +195,7 @@ fn not_opened() -> Opened
 }
 
 // Yes and the stage proved, or no and K dropped.
-fn compared(session: Session, clock: Moment, plain: [u8; 16]) -> Act
+fn compared(session: Session, clock: Moment, plain: [u8; 16]) -> SessionOutcome
     ensures { λ r. ⌜ r ≡ rule.comparedPasskey (clock .0) session plain ⌝ }
 {
     if passkey_in(plain) == session.passkey {
@@ -204,10 +204,10 @@ fn compared(session: Session, clock: Moment, plain: [u8; 16]) -> Act
     confirmed(Confirm::No, Session::idle())
 }
 
-fn confirmed(confirm: Confirm, session: Session) -> Act
+fn confirmed(confirm: Confirm, session: Session) -> SessionOutcome
     ensures { λ r. ⌜ r ≡ record { answer = Answer.Taken; confirm = confirm; session = session; stores = false; key = zeroKey } ⌝ }
 {
-    Act {
+    SessionOutcome {
         answer: Answer::Taken,
         confirm: confirm,
         session: session,
@@ -216,10 +216,10 @@ fn confirmed(confirm: Confirm, session: Session) -> Act
     }
 }
 
-fn key_stored(plain: [u8; 16]) -> Act
+fn key_stored(plain: [u8; 16]) -> SessionOutcome
     ensures { λ r. ⌜ r ≡ rule.keyStored plain ⌝ }
 {
-    Act {
+    SessionOutcome {
         answer: Answer::Taken,
         confirm: Confirm::Unasked,
         session: Session::idle(),
@@ -228,10 +228,10 @@ fn key_stored(plain: [u8; 16]) -> Act
     }
 }
 
-fn answered(answer: Answer, session: Session) -> Act
+fn answered(answer: Answer, session: Session) -> SessionOutcome
     ensures { λ r. ⌜ r ≡ rule.answered answer session ⌝ }
 {
-    Act {
+    SessionOutcome {
         answer: answer,
         confirm: Confirm::Unasked,
         session: session,
@@ -240,7 +240,7 @@ fn answered(answer: Answer, session: Session) -> Act
     }
 }
 
-fn dropped(answer: Answer) -> Act
+fn dropped(answer: Answer) -> SessionOutcome
     ensures { λ r. ⌜ r ≡ rule.dropped answer ⌝ }
 {
     answered(answer, Session::idle())
@@ -274,7 +274,7 @@ fn passkey_response(session: Session, salt: [u8; 12]) -> [u8; 16]
         0x03,
         ((p >> 16) % 256) as u8,
         ((p >> 8) % 256) as u8,
-        ((p >> 0) % 256) as u8,
+        (p % 256) as u8,
         salt[0],
         salt[1],
         salt[2],

@@ -22,13 +22,13 @@ use Rattle.key_based.specs.Request.{sized}
 use Rattle.key_based.specs.declared.Context.{Context}
 use Rattle.key_based.specs.declared.Decision.{Decision}
 use Rattle.key_based.specs.declared.Element.{Element}
-use Rattle.pairing.specs.Pairing.{PairingEvent, acts}
+use Rattle.pairing.specs.Pairing.{PairingEvent, sessionStep}
 use Rattle.pairing.specs.Pairing as pairing
-use Rattle.pairing.specs.declared.Act.{Act}
+use Rattle.pairing.specs.declared.SessionOutcome.{SessionOutcome}
 use Rattle.provider.specs.Demands.Validity.{Valid}
 use Rattle.provider.specs.Rules.Control.{powerOn, started, factoryReset}
 use Rattle.provider.specs.Rules.Device.{Effect, given, answers, takes, dropAll, dropAt, withSessions, withGuard, withKeys, clockStep, inTime, onKnownLink, checkedOf}
-use Rattle.provider.specs.Rules.Event.{LinkEvent, KeyBasedWrite, OnLink, OnSession, lentOnLink, early, earlyOnSession, requestSize, responseRoom, contextOf, requested, acted, onLink, step}
+use Rattle.provider.specs.Rules.Event.{LinkEvent, KeyBasedWrite, OnLink, OnSession, lentOnLink, early, earlyOnSession, requestSize, responseRoom, contextOf, requested, applied, onLink, step}
 use Rattle.provider.specs.declared.Checked.{Checked}
 use Rattle.provider.specs.declared.Device.{Device}
 use Rattle.provider.specs.declared.Start.{Start}
@@ -107,7 +107,8 @@ module _ (d : Device) (l t : ℕ) (early : Answer) {k : Checked}
   link-refused h out rest = go (ltb 7 l) (isTaken early) e
     where
       go : (a b : Bool)
-          → k ≡ checkedOf ((if a then answers d UnknownLink [] else if not b then answers d early [] else inTime d t [] takes) .gives)
+          → k ≡ checkedOf ((if a then answers d UnknownLink [] else if not b then answers d early [] else inTime d t
+          [] takes) .gives)
           → (if a then answers d UnknownLink out else if not b then answers d early out else inTime d t out rest)
           ≡ record { gives = k .outcome; leaves = out }
       go true b q = λ i. record { gives = sym q i .outcome; leaves = out }
@@ -119,7 +120,8 @@ module _ (d : Device) (l t : ℕ) (early : Answer) {k : Checked}
   link-passed h = go (ltb 7 l) (isTaken early) refl refl e
     where
       go : (a b : Bool) → ltb 7 l ≡ a → isTaken early ≡ b
-          → k ≡ checkedOf ((if a then answers d UnknownLink [] else if not b then answers d early [] else inTime d t [] takes) .gives)
+          → k ≡ checkedOf ((if a then answers d UnknownLink [] else if not b then answers d early [] else inTime d t
+          [] takes) .gives)
           → Passed d l t early k
       go true b x y q = absurd (true-is (sym (ap (λ (c : Checked). c .passed) q) ∙ h))
       go false false x y q = absurd (true-is (sym (ap (λ (c : Checked). c .passed) q ∙ y) ∙ h))
@@ -169,9 +171,10 @@ module _ (d : Device) (l t : ℕ) (e : PairingEvent) {k : Checked} (p : Passed d
   session-after : s ≡ sessionAt (clockStep t d .sessions) l
   session-after = q ∙ ap (λ (x : Device). sessionAt (x .sessions) l) (p .next)
 
-  pub session-gives : {a : Act} → a ≡ acts e t s → acted (k .outcome .next) l a ≡ step d (OnLink l t (OnSession e)) .gives
+  pub session-gives : {a : SessionOutcome} → a ≡ sessionStep e t s → applied (k .outcome .next) l a ≡ step d
+      (OnLink l t (OnSession e)) .gives
   session-gives r =
-      ap₂ (λ (x : Device) (a : Act). acted x l a) (p .next) (r ∙ ap (acts e t) session-after)
+      ap₂ (λ (x : Device) (a : SessionOutcome). applied x l a) (p .next) (r ∙ ap (sessionStep e t) session-after)
       ∙ sym (ap (λ (x : Effect). x .gives) (p .rest (pairing.lent e) (λ x. onLink (OnSession e) x l t)))
 
   pub session-leaves : {o : List ℕ} → o ≡ pairing.leaves e t s → o ≡ step d (OnLink l t (OnSession e)) .leaves

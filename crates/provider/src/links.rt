@@ -9,8 +9,8 @@ use basics::Moment;
 use key_based::Context;
 use key_based::Decision;
 use key_based::Element;
-use pairing::Act;
 use pairing::Confirm;
+use pairing::SessionOutcome;
 use sessions::Session;
 ghost use mathlib.Core.Path.{_≡_};
 ghost use Prim.Native.Nat.{_<_};
@@ -54,7 +54,7 @@ impl Device {
         }
         self = checked.outcome.next;
         let session = self.sessions.at(link);
-        self.acted(link, pairing::pairing_started(session, clock, capability))
+        self.applied(link, pairing::pairing_started(session, clock, capability))
     }
 
     pub fn confirmation_needed(mut self, link: Link, clock: Moment, passkey: u32) -> Outcome
@@ -67,7 +67,7 @@ impl Device {
         }
         self = checked.outcome.next;
         let session = self.sessions.at(link);
-        self.acted(link, pairing::confirmation_needed(session, clock, passkey))
+        self.applied(link, pairing::confirmation_needed(session, clock, passkey))
     }
 
     pub fn passkey_write(
@@ -88,7 +88,7 @@ impl Device {
         }
         self = checked.outcome.next;
         let session = self.sessions.at(link);
-        self.acted(
+        self.applied(
             link,
             pairing::passkey_write(session, clock, block, salt, out),
         )
@@ -104,7 +104,7 @@ impl Device {
         }
         self = checked.outcome.next;
         let session = self.sessions.at(link);
-        self.acted(link, pairing::pairing_ended(session, clock, success))
+        self.applied(link, pairing::pairing_ended(session, clock, success))
     }
 
     pub fn account_key_write(mut self, link: Link, clock: Moment, block: &[u8]) -> Outcome
@@ -117,7 +117,7 @@ impl Device {
         }
         self = checked.outcome.next;
         let session = self.sessions.at(link);
-        self.acted(link, pairing::account_key_write(session, block))
+        self.applied(link, pairing::account_key_write(session, block))
     }
 
     pub fn key_based_write(
@@ -146,18 +146,18 @@ impl Device {
         )
     }
 
-    // The device after an event that acted so on its session.
-    fn acted(mut self, link: Link, act: Act) -> Outcome
+    // The device with what an event made of its session.
+    fn applied(mut self, link: Link, outcome: SessionOutcome) -> Outcome
         requires { ⌜ (link .0 < linkCount) × Kept (self .keys) ⌝ }
-        ensures { λ r. ⌜ r ≡ rule.acted self (link .0) act ⌝ }
+        ensures { λ r. ⌜ r ≡ rule.applied self (link .0) outcome ⌝ }
     {
         let sessions = self.sessions;
         let keys = self.keys;
-        let session = act.session;
-        let answer = act.answer;
-        let confirm = act.confirm;
+        let session = outcome.session;
+        let answer = outcome.answer;
+        let confirm = outcome.confirm;
         self.sessions = sessions.with(link, session);
-        self.keys = act.stored_in(keys);
+        self.keys = outcome.stored_in(keys);
         Outcome {
             next: self,
             reply: Reply {

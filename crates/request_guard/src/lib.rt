@@ -28,7 +28,7 @@ pub struct Salt {
 #[repr(C)]
 pub struct SpentSalts {
     pub salts: [Salt; LIMIT],
-    pub count: usize,
+    pub count: u64,
 }
 
 // How many requests in a row found no fitting key, and when the last one came; zero while the count is 0.
@@ -112,7 +112,7 @@ impl Guard {
         ensures { λ r. ⌜ r ≡ bounded self ⌝ }
     {
         let salts = self.spent;
-        if LIMIT < salts.count {
+        if (LIMIT as u64) < salts.count {
             return false;
         }
         if 10 < self.failures.count {
@@ -152,7 +152,7 @@ impl SpentSalts {
         requires { ⌜ Kept self ⌝ }
         ensures { λ r. ⌜ r ≡ spent (remembered self) salt ⌝ }
     {
-        let n = self.count;
+        let n = self.count as usize;
         let mut i = 0;
         while i < n {
             let s = self.salts[i];
@@ -169,7 +169,7 @@ impl SpentSalts {
         requires { ⌜ Kept self ⌝ }
         ensures { λ r. ⌜ r ≡ salts (remembering (remembered self) salt) ⌝ }
     {
-        let n = self.count;
+        let n = self.count as usize;
         if LIMIT <= n {
             let rest = self.without_oldest();
             return rest.push(salt);
@@ -183,7 +183,7 @@ impl SpentSalts {
         ensures { λ r. ⌜ r ≡ salts (remembered self ++ (salt ∷ [])) ⌝ }
     {
         let n = self.count;
-        self.salts[n] = salt;
+        self.salts[n as usize] = salt;
         self.count = n + 1;
         self
     }
@@ -199,7 +199,7 @@ impl SpentSalts {
             rest.salts[i] = self.salts[i + 1];
             i += 1;
         }
-        rest.count = LAST;
+        rest.count = LAST as u64;
         rest
     }
 
@@ -208,7 +208,7 @@ impl SpentSalts {
         requires { ⌜ self .count ≤ saltLimit ⌝ }
         ensures { λ r. ⌜ r ≡ allSized (inUse self) ⌝ }
     {
-        let n = self.count;
+        let n = self.count as usize;
         let mut i = 0;
         while i < n {
             let s = self.salts[i];
@@ -226,14 +226,14 @@ impl SpentSalts {
         ensures { λ r. ⌜ r ≡ salts (inUse self) ⌝ }
     {
         let mut rest = SpentSalts::none();
-        let n = self.count;
+        let n = self.count as usize;
         let mut i = 0;
         while i < n {
             let s = self.salts[i];
             rest.salts[i] = s.cleaned();
             i += 1;
         }
-        rest.count = n;
+        rest.count = self.count;
         rest
     }
 }

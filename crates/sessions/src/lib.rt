@@ -6,6 +6,9 @@ ghost use Prim.Native.Nat.{_<_};
 ghost use lib.ListN.{length};
 ghost use Rattle.sessions.specs.Sessions.{linkCount, stageNumber, isStage, becomes, idle, hasTimer, atClock, allIdle, sessionAt, withSession, expired};
 
+// The number of links: 0 to 7 exist.
+pub const LINKS: usize = 8;
+
 // Document 01's stages; an idle link is in none.
 pub enum Stage {
     Idle,
@@ -26,7 +29,7 @@ pub struct Session {
 }
 
 pub struct Sessions {
-    pub links: [Session; 8],
+    pub links: [Session; LINKS],
 }
 
 impl Session {
@@ -83,7 +86,7 @@ impl Sessions {
         ensures { λ r. ⌜ r ≡ allIdle ⌝ }
     {
         Sessions {
-            links: [Session::idle(); 8],
+            links: [Session::idle(); LINKS],
         }
     }
 
@@ -110,7 +113,7 @@ impl Sessions {
         ensures { λ r. ⌜ r ≡ expired (now .0) self ⌝ }
     {
         let mut i = 0;
-        while i < 8 {
+        while i < LINKS {
             let session = self.links[i];
             self.links[i] = session.at_clock(now);
             i += 1;

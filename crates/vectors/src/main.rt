@@ -2,17 +2,13 @@
 // `stdout` beside `src` has the same lines from other implementations (tools/expected_vectors.py).
 mod cipher;
 mod fast_pair;
+mod filters;
 mod hash;
 mod hex;
-mod owners;
-mod payloads;
-mod report;
-mod stored_list;
 
 fn main() {
     hash::run();
     cipher::run();
     fast_pair::run();
-    payloads::run();
-    stored_list::run();
+    filters::run();
 }

@@ -8,7 +8,8 @@ use Rattle.account_keys.proofs.read.Statement.{statement}
 
 returns : tie.Need-returns
 returns c =
-    c .malformed .ensures ∙ sym (shorter-than-header (c .before .before .before .args .src .now) (c .before .if1 .taken))
+    let start = c .before .before .before in
+    c .malformed .ensures ∙ sym (shorter-than-header (start .args .src .now) (c .before .if1 .taken))
 
 cast-if2 : tie.Need-cast-if2
 cast-if2 c = omega (arith, c .shared-slice-known2 .given 0)
@@ -25,7 +26,8 @@ add-if2 c = omega (arith, c .before .shared-slice-known2 .given 0, c .shared-sli
 returns-2 : tie.Need-returns-2
 returns-2 c =
     let long = c .before .before .before .before in
-    c .malformed2 .ensures ∙ sym (other-length (long .before .before .args .src .now) (long .if1 .left) (c .before .if2 .taken))
+    c .malformed2 .ensures ∙ sym
+    (other-length (long .before .before .args .src .now) (long .if1 .left) (c .before .if2 .taken))
 
 returns-3 : tie.Need-returns-3
 returns-3 c =
@@ -53,7 +55,8 @@ returns-5 c =
     let sized = known .before .before in
     let long = sized .before .before .before in
     c .malformed5 .ensures ∙ sym
-    (other-size (long .before .before .args .src .now) (long .if1 .left) (sized .if2 .left) (known .if3 .left) (few .if4 .left)
+    (other-size (long .before .before .args .src .now) (long .if1 .left) (sized .if2 .left) (known .if3 .left)
+    (few .if4 .left)
     (c .before .if5 .taken))
 
 returns-6 : tie.Need-returns-6
@@ -63,7 +66,8 @@ returns-6 c =
     let sized = known .before .before in
     let long = sized .before .before .before in
     c .read-keys .ensures ∙ sym
-    (sizes-agree (long .before .before .args .src .now) (long .if1 .left) (sized .if2 .left) (known .if3 .left) (few .if4 .left)
+    (sizes-agree (long .before .before .args .src .now) (long .if1 .left) (sized .if2 .left) (known .if3 .left)
+    (few .if4 .left)
     (c .before .if5 .left))
 
 pub read-spec : {M : Type 1} → statement M

@@ -28,7 +28,9 @@ unfolding keysIn owned
 loop-holds c = (search needs, c .none .ensures, refl)
 
 sixteen-requires : tie.Need-sixteen-requires Inv-loop μ-loop
-sixteen-requires c κs = omega (arith, c .before .before .before .before .pre .1)
+sixteen-requires c κs =
+    let start = c .before .before .before .before in
+    omega (arith, start .pre .1)
 
 returns : tie.Need-returns Inv-loop μ-loop
 returns c =

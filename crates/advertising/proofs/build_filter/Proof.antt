@@ -49,14 +49,16 @@ loop-again c =
       search needs,
       turn .loop .inv .1,
       bits .kept .0 ∙ turn .loop .inv .2,
-      withKey-more size (start .args .salt) (replicate size 0) (ks .keys) (ks .count) (turn .loop .i) (taken .loop-test .taken)
+      withKey-more size (start .args .salt) (replicate size 0) (ks .keys) (ks .count) (turn .loop .i)
+          (taken .loop-test .taken)
           (omega (arith, start .pre .0 .few, length-keys ks (start .pre .0))) (turn .loop .inv .3) (turn .loop .inv .2)
           (c .before .before .before .salted-hash .ensures) (bits .ensures),
     )
 
 same-length : tie.Need-same-length Inv-loop μ-loop
 same-length c =
-    c .before .loop .inv .2 ∙ sym (c .before .before .before .before .before .before .before .pre .1)
+    let start = c .before .before .before .before .before .before .before in
+    c .before .loop .inv .2 ∙ sym (start .pre .1)
 
 returns : tie.Need-returns Inv-loop μ-loop
 returns c =

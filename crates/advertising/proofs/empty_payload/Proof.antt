@@ -10,8 +10,8 @@ use Rattle.basics.proofs.Lent.{left-alone}
 
 returns : tie.Need-returns
 returns c =
-    left-alone (structure (0 ∷ 0 ∷ [])) (c .before .before .before .args .out .now) (c .before .if1 .taken)
-    (c .too-short .ensures)
+    let start = c .before .before .before in
+    left-alone (structure (0 ∷ 0 ∷ [])) (start .args .out .now) (c .before .if1 .taken) (c .too-short .ensures)
 
 returns-2 : tie.Need-returns-2
 returns-2 c =

@@ -19,7 +19,13 @@ add-out : tie.Need-add-out
 add-out c =
     let size = c .before .before .before .before .before .before in
     let start = size .before .before in
-    omega (arith, promptType-small (start .args .prompt), c .prompt-type .ensures, size .filter-size .ensures, start .pre .few)
+    omega (
+      arith,
+      promptType-small (start .args .prompt),
+      c .prompt-type .ensures,
+      size .filter-size .ensures,
+      start .pre .few,
+    )
 
 slice-write-out-2 : tie.Need-slice-write-out-2
 slice-write-out-2 c =

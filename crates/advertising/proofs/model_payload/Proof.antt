@@ -19,19 +19,15 @@ returns c =
 
 slice-write-out-2 : tie.Need-slice-write-out-2
 slice-write-out-2 c =
-    simp length-set (omega (
-      arith,
-      c .before .before .before .before .if1 .left,
-      c .before .before .begin .kept .0,
-    ))
+    let at-begin = c .before .before in
+    let at-if1 = at-begin .before .before in
+    simp length-set (omega (arith, at-if1 .if1 .left, at-begin .begin .kept .0))
 
 slice-write-out-3 : tie.Need-slice-write-out-3
 slice-write-out-3 c =
-    simp length-set (omega (
-      arith,
-      c .before .before .before .before .if1 .left,
-      c .before .before .begin .kept .0,
-    ))
+    let at-begin = c .before .before in
+    let at-if1 = at-begin .before .before in
+    simp length-set (omega (arith, at-if1 .if1 .left, at-begin .begin .kept .0))
 
 returns-2 : tie.Need-returns-2
 returns-2 c =
@@ -39,7 +35,8 @@ returns-2 c =
     let room = begun .before .before in
     let given = room .before .before .args in
     let long : length (given .t1) ≡ 3 = search needs in
-    structure-stored (given .out .now) (given .t1) (tabulate 3 (λ i. getD (given .t1) i 0)) (tabulate-getD 3 (given .t1) 0 long)
+    structure-stored (given .out .now) (given .t1) (tabulate 3 (λ i. getD (given .t1) i 0))
+    (tabulate-getD 3 (given .t1) 0 long)
     (begun .begin .ensures) (c .written .ensures) refl refl (room .if1 .left)
 
 pub model-payload-spec : {M : Type 1} → statement M

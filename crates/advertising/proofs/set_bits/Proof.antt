@@ -26,13 +26,21 @@ slice-read-out : tie.Need-slice-read-out Inv-loop μ-loop
 slice-read-out c =
     let turn = c .before .before .before in
     let start = turn .before .before in
-    omega (arith, place-within (c .before .number-at .result) (length (start .args .out .now)) (start .pre .0), turn .loop .inv .2)
+    omega (
+      arith,
+      place-within (c .before .number-at .result) (length (start .args .out .now)) (start .pre .0),
+      turn .loop .inv .2,
+    )
 
 slice-write-out : tie.Need-slice-write-out Inv-loop μ-loop
 slice-write-out c =
     let turn = c .before .before .before in
     let start = turn .before .before in
-    omega (arith, place-within (c .before .number-at .result) (length (start .args .out .now)) (start .pre .0), turn .loop .inv .2)
+    omega (
+      arith,
+      place-within (c .before .number-at .result) (length (start .args .out .now)) (start .pre .0),
+      turn .loop .inv .2,
+    )
 
 loop-again : tie.Need-loop-again Inv-loop μ-loop
 loop-again c =
@@ -52,7 +60,8 @@ returns : tie.Need-returns Inv-loop μ-loop
 returns c =
     let end = c .before in
     let given = end .before .before .args in
-    at-limit (λ k. end .loop .out ≡ foldl (withNumber (length (given .out .now))) (given .out .now) (take k (numbers (given .hash))))
+    at-limit (λ k. end .loop .out ≡ foldl (withNumber (length (given .out .now))) (given .out .now)
+    (take k (numbers (given .hash))))
     (end .loop .inv .0) (c .loop-test .left) (end .loop .inv .3) ∙ rw (take-numbers (given .hash))
 
 pub set-bits-spec : {M : Type 1} → statement M

@@ -7,12 +7,10 @@ use Rattle.aes128.proofs.mix_columns.Tie as tie
 
 returns : tie.Need-returns
 returns c =
-    rw (
-      c .rotated-sum .ensures,
-      c .before .xor .ensures,
-      c .before .before .double-all .ensures,
-    )
-    (mixColumns-made (c .before .before .before .args .s))
+    let at-double-all = c .before .before in
+    let start = at-double-all .before in
+    rw (c .rotated-sum .ensures, c .before .xor .ensures, at-double-all .double-all .ensures)
+    (mixColumns-made (start .args .s))
 
 pub mix-columns-spec : {M : Type 1} → statement M
 mix-columns-spec =

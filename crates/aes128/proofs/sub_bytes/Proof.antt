@@ -13,7 +13,8 @@ use Rattle.aes128.proofs.sub_bytes.Tie as tie
 returns : tie.Need-returns
 unfolding subBytes
 returns c =
-    c .substitute .ensures ∙ substituted-by sBoxTable sBox (follow-the-rule .first) (c .before .before .args .s) (λ i. search needs)
+    c .substitute .ensures ∙ substituted-by sBoxTable sBox (follow-the-rule .first) (c .before .before .args .s)
+    (λ i. search needs)
 
 pub sub-bytes-spec : {M : Type 1} → statement M
 sub-bytes-spec = tie.close (tie.spec (λ c κs. search needs) returns)

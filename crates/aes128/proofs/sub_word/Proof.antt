@@ -7,13 +7,11 @@ use Rattle.aes128.proofs.sub_word.Tie as tie
 
 returns : tie.Need-returns
 returns c =
-    subWord-by
-    (c .before .before .before .before .before .args .t1)
-    (λ i. search needs)
-    (c .before .before .before .look .ensures)
-    (c .before .before .look2 .ensures)
-    (c .before .look3 .ensures)
-    (c .look4 .ensures)
+    let at-look2 = c .before .before in
+    let at-look = at-look2 .before in
+    let start = at-look .before .before in
+    subWord-by (start .args .t1) (λ i. search needs) (at-look .look .ensures) (at-look2 .look2 .ensures)
+    (c .before .look3 .ensures) (c .look4 .ensures)
 
 pub sub-word-spec : {M : Type 1} → statement M
 sub-word-spec =

@@ -20,14 +20,14 @@ loop-holds : tie.Need-loop-holds Inv-loop μ-loop
 loop-holds c = (search needs, refl, refl)
 
 loop-again : tie.Need-loop-again Inv-loop μ-loop
-loop-again c = (
-  search needs,
-  simp length-set (c .before .before .loop .inv .1),
-  copy-more
-      (c .before .before .loop .block) (c .before .before .before .args .src .now)
-      (c .before .before .before .args .at) (c .before .before .loop .i) 0 (c .before .before .loop .inv .2)
-      (omega arith) (omega (arith, c .before .before .before .pre)),
-)
+loop-again c =
+    let at-loop = c .before .before in
+    let start = at-loop .before in (
+      search needs,
+      simp length-set (at-loop .loop .inv .1),
+      copy-more (at-loop .loop .block) (start .args .src .now)
+          (start .args .at) (at-loop .loop .i) 0 (at-loop .loop .inv .2) (omega arith) (omega (arith, start .pre)),
+    )
 
 returns : tie.Need-returns Inv-loop μ-loop
 returns c =

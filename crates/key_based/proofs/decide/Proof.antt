@@ -15,8 +15,14 @@ use Rattle.key_based.proofs.decide.Tie as tie
 returns : tie.Need-returns
 returns c =
     let at-decided = c .before .before in
-    let start = at-decided .before .before .before in
-    (at-decided .decided .ensures, output-kept (start .args .context) (start .args .salt) (start .args .out .now) (rule.decided (start .args .context) (start .args .session) (start .args .clock .0) (start .args .element) (start .args .request .now)) (ap (λ (r : Decision). isTaken (r .answer)) (sym (at-decided .decided .ensures)) ∙ sym (c .before .is-taken .ensures) ∙ not-true _ (c .if1 .taken)))
+    let start = at-decided .before .before .before in (
+      at-decided .decided .ensures,
+      output-kept (start .args .context) (start .args .salt) (start .args .out .now)
+          (rule.decided (start .args .context) (start .args .session) (start .args .clock .0) (start .args .element)
+          (start .args .request .now))
+          (ap (λ (r : Decision). isTaken (r .answer)) (sym (at-decided .decided .ensures)) ∙ sym
+          (c .before .is-taken .ensures) ∙ not-true _ (c .if1 .taken)),
+    )
 
 returns-2 : tie.Need-returns-2
 returns-2 c =
@@ -25,8 +31,18 @@ returns-2 c =
     let at-if1 = at-response .before .before .before .before in
     let at-is-taken = at-if1 .before in
     let at-decided = at-is-taken .before in
-    let start = at-decided .before .before .before in
-    (at-decided .decided .ensures, at-put .put .ensures ∙ output-written (start .args .context) (start .args .salt) (start .args .out .now) (rule.decided (start .args .context) (start .args .session) (start .args .clock .0) (start .args .element) (start .args .request .now)) (ap (λ (r : Decision). isTaken (r .answer)) (sym (at-decided .decided .ensures)) ∙ sym (at-is-taken .is-taken .ensures) ∙ not-false _ (at-if1 .if1 .left)) (at-response .response .ensures ∙ ap (λ (r : Decision). response (r .session .key) (start .args .context .public) (start .args .salt)) (at-decided .decided .ensures)))
+    let start = at-decided .before .before .before in (
+      at-decided .decided .ensures,
+      at-put .put .ensures ∙ output-written (start .args .context) (start .args .salt)
+          (start .args .out .now)
+          (rule.decided (start .args .context) (start .args .session) (start .args .clock .0) (start .args .element)
+          (start .args .request .now))
+          (ap (λ (r : Decision). isTaken (r .answer)) (sym (at-decided .decided .ensures)) ∙ sym
+          (at-is-taken .is-taken .ensures) ∙ not-false _ (at-if1 .if1 .left))
+          (at-response .response .ensures ∙ ap
+          (λ (r : Decision). response (r .session .key) (start .args .context .public) (start .args .salt))
+          (at-decided .decided .ensures)),
+    )
 
 pub decide-spec : {M : Type 1} → statement M
 decide-spec =

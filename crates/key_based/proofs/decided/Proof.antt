@@ -11,7 +11,9 @@ returns : tie.Need-returns
 returns c =
     let at-locked = c .before .before in
     let start = at-locked .before .before .before in
-    c .refused .ensures ∙ sym (locked-out (start .args .context) (start .args .session) (start .args .clock .0) (start .args .element) (start .args .request .now) (sym (at-locked .locked .ensures) ∙ c .before .if1 .taken))
+    c .refused .ensures ∙ sym
+    (locked-out (start .args .context) (start .args .session) (start .args .clock .0) (start .args .element)
+    (start .args .request .now) (sym (at-locked .locked .ensures) ∙ c .before .if1 .taken))
 
 returns-2 : tie.Need-returns-2
 returns-2 c =
@@ -19,14 +21,20 @@ returns-2 c =
     let at-if1 = at-is-unwanted .before in
     let at-locked = at-if1 .before in
     let start = at-locked .before .before .before in
-    c .refused2 .ensures ∙ sym (not-in-pairing-mode (start .args .context) (start .args .session) (start .args .clock .0) (start .args .element) (start .args .request .now) (sym (at-locked .locked .ensures) ∙ at-if1 .if1 .left) (sym (at-is-unwanted .is-unwanted .ensures) ∙ c .before .if2 .taken))
+    c .refused2 .ensures ∙ sym
+    (not-in-pairing-mode (start .args .context) (start .args .session) (start .args .clock .0)
+    (start .args .element) (start .args .request .now) (sym (at-locked .locked .ensures) ∙ at-if1 .if1 .left)
+    (sym (at-is-unwanted .is-unwanted .ensures) ∙ c .before .if2 .taken))
 
 settled-requires : tie.Need-settled-requires
 settled-requires c κs =
     let at-if1 = c .before .before .before .before .before .before in
     let at-locked = at-if1 .before in
-    let start = at-locked .before .before .before in
-    (start .pre .1, not-locked (start .args .context .guard) (start .pre .1) (sym (at-locked .locked .ensures) ∙ at-if1 .if1 .left))
+    let start = at-locked .before .before .before in (
+      start .pre .1,
+      not-locked (start .args .context .guard) (start .pre .1)
+          (sym (at-locked .locked .ensures) ∙ at-if1 .if1 .left),
+    )
 
 returns-3 : tie.Need-returns-3
 returns-3 c =
@@ -35,7 +43,12 @@ returns-3 c =
     let at-if1 = at-is-unwanted .before in
     let at-locked = at-if1 .before in
     let start = at-locked .before .before .before in
-    c .settled .ensures ∙ ap (rule.settled (start .args .context .guard) (start .args .session) (start .args .clock .0)) (c .before .try-keys .ensures) ∙ sym (keys-tried (start .args .context) (start .args .session) (start .args .clock .0) (start .args .element) (start .args .request .now) (sym (at-locked .locked .ensures) ∙ at-if1 .if1 .left) (sym (at-is-unwanted .is-unwanted .ensures) ∙ at-if2 .if2 .left))
+    c .settled .ensures ∙ ap
+    (rule.settled (start .args .context .guard) (start .args .session) (start .args .clock .0))
+    (c .before .try-keys .ensures) ∙ sym
+    (keys-tried (start .args .context) (start .args .session) (start .args .clock .0) (start .args .element)
+    (start .args .request .now) (sym (at-locked .locked .ensures) ∙ at-if1 .if1 .left)
+    (sym (at-is-unwanted .is-unwanted .ensures) ∙ at-if2 .if2 .left))
 
 pub decided-spec : {M : Type 1} → statement M
 decided-spec =

@@ -10,18 +10,19 @@ returns c = other-kind (c .before .args .t1) (c .before .args .t2) (c .before .a
 
 returns-2 : tie.Need-returns-2
 returns-2 c =
-    names-ble (c .before .before .before .before .before .before .before .before .args .t1)
-    (c .before .before .before .before .before .before .before .before .args .t2)
-    (c .before .before .before .before .before .before .before .before .args .t3)
-    (c .before .before .before .before .before .before .before .if1 .left)
+    let at-if1 = c .before .before .before .before .before .before .before in
+    let start = at-if1 .before in
+    names-ble (start .args .t1) (start .args .t2) (start .args .t3) (at-if1 .if1 .left)
     (sym (c .before .same .ensures) ∙ c .if2 .taken)
 
 returns-3 : tie.Need-returns-3
 returns-3 c =
-    c .same2 .ensures ∙ names-public
-    (c .before .before .before .before .before .before .before .before .before .before .before .before .args .t1) (c .before .before .before .before .before .before .before .before .before .before .before .before .args .t2) (c .before .before .before .before .before .before .before .before .before .before .before .before .args .t3) (c .before .before .before .before .before .before .before .before .before .before .before .if1 .left)
-    (sym (c .before .before .before .before .before .same .ensures)
-    ∙ c .before .before .before .before .if2 .left)
+    let at-if2 = c .before .before .before .before in
+    let at-same = at-if2 .before in
+    let at-if1 = at-same .before .before .before .before .before .before in
+    let start = at-if1 .before in
+    c .same2 .ensures ∙ names-public (start .args .t1) (start .args .t2) (start .args .t3) (at-if1 .if1 .left)
+    (sym (at-same .same .ensures) ∙ at-if2 .if2 .left)
 
 pub fitting-spec : {M : Type 1} → statement M
 fitting-spec =

@@ -14,7 +14,11 @@ returns : tie.Need-returns
 returns c =
     let at-if1 = c .before .before in
     let start = at-if1 .before .before in
-    c .refused .ensures ∙ ap (λ (g : Guard). rule.refused g (start .args .session) NoKeyFits (start .args .search .tried)) (c .before .failed .ensures) ∙ sym (none-fits (start .args .guard) (start .args .session) (start .args .clock .0) (start .args .search) (not-true (start .args .search .found) (at-if1 .if1 .taken)))
+    c .refused .ensures ∙ ap
+    (λ (g : Guard). rule.refused g (start .args .session) NoKeyFits (start .args .search .tried))
+    (c .before .failed .ensures) ∙ sym
+    (none-fits (start .args .guard) (start .args .session) (start .args .clock .0) (start .args .search)
+    (not-true (start .args .search .found) (at-if1 .if1 .taken)))
 
 returns-2 : tie.Need-returns-2
 returns-2 c =
@@ -22,7 +26,12 @@ returns-2 c =
     let at-request-salt = at-is-spent .before in
     let at-if1 = at-request-salt .before .before in
     let start = at-if1 .before .before in
-    c .refused2 .ensures ∙ sym (salt-spent (start .args .guard) (start .args .session) (start .args .clock .0) (start .args .search) (not-false (start .args .search .found) (at-if1 .if1 .left)) (ap (guards.spent (guards.remembered (start .args .guard .spent))) (sym (at-request-salt .request-salt .ensures)) ∙ sym (at-is-spent .is-spent .ensures) ∙ c .before .if2 .taken))
+    c .refused2 .ensures ∙ sym
+    (salt-spent (start .args .guard) (start .args .session) (start .args .clock .0) (start .args .search)
+    (not-false (start .args .search .found) (at-if1 .if1 .left))
+    (ap (guards.spent (guards.remembered (start .args .guard .spent)))
+    (sym (at-request-salt .request-salt .ensures)) ∙ sym (at-is-spent .is-spent .ensures) ∙
+    c .before .if2 .taken))
 
 returns-3 : tie.Need-returns-3
 returns-3 c =
@@ -32,7 +41,16 @@ returns-3 c =
     let at-request-salt = at-is-spent .before in
     let at-if1 = at-request-salt .before .before in
     let start = at-if1 .before .before in
-    rw (at-bond-asked .bond-asked .ensures, c .before .accepted .ensures, c .asked .ensures, at-request-salt .request-salt .ensures) (sym (request-accepted (start .args .guard) (start .args .session) (start .args .clock .0) (start .args .search) (not-false (start .args .search .found) (at-if1 .if1 .left)) (ap (guards.spent (guards.remembered (start .args .guard .spent))) (sym (at-request-salt .request-salt .ensures)) ∙ sym (at-is-spent .is-spent .ensures) ∙ at-if2 .if2 .left)))
+    rw (
+      at-bond-asked .bond-asked .ensures,
+      c .before .accepted .ensures,
+      c .asked .ensures,
+      at-request-salt .request-salt .ensures,
+    )
+    (sym (request-accepted (start .args .guard) (start .args .session) (start .args .clock .0)
+    (start .args .search) (not-false (start .args .search .found) (at-if1 .if1 .left))
+    (ap (guards.spent (guards.remembered (start .args .guard .spent)))
+    (sym (at-request-salt .request-salt .ensures)) ∙ sym (at-is-spent .is-spent .ensures) ∙ at-if2 .if2 .left)))
 
 pub settled-spec : {M : Type 1} → statement M
 settled-spec =

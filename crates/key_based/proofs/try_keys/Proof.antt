@@ -11,23 +11,28 @@ sixteen-requires c κs = sized-long (c .before .args .request .now) (c .before .
 
 returns : tie.Need-returns
 returns c =
-    from-owners (c .before .before .before .before .args .ble)
-    (c .before .before .before .before .args .public) (c .before .before .before .before .args .request .now)
-    (held (c .before .before .before .before .args .keys)) (c .before .before .before .before .args .t4)
-    (c .before .if1 .taken) (c .before .before .sixteen .ensures) (c .try-owners .ensures)
+    let at-sixteen = c .before .before in
+    let start = at-sixteen .before .before in
+    from-owners (start .args .ble) (start .args .public) (start .args .request .now) (held (start .args .keys))
+    (start .args .t4) (c .before .if1 .taken) (at-sixteen .sixteen .ensures) (c .try-owners .ensures)
 
 returns-2 : tie.Need-returns-2
 returns-2 c =
-    rejected (c .before .before .before .before .before .args .ble)
-    (c .before .before .before .before .before .args .public)
-    (c .before .before .before .before .before .args .request .now)
-    (held (c .before .before .before .before .before .args .keys))
-    (c .before .before .before .before .before .args .t4) (c .before .before .if1 .left)
-    (not-true _ (c .before .if2 .taken)) (c .none-fits .ensures)
+    let at-if1 = c .before .before in
+    let start = at-if1 .before .before .before in
+    rejected (start .args .ble) (start .args .public) (start .args .request .now) (held (start .args .keys))
+    (start .args .t4) (at-if1 .if1 .left) (not-true _ (c .before .if2 .taken)) (c .none-fits .ensures)
 
 returns-3 : tie.Need-returns-3
 returns-3 c =
-    from-secret (c .before .before .before .before .before .before .before .before .before .before .before .args .ble) (c .before .before .before .before .before .before .before .before .before .before .before .args .public) (c .before .before .before .before .before .before .before .before .before .before .before .args .request .now) (held (c .before .before .before .before .before .before .before .before .before .before .before .args .keys)) (c .before .before .before .before .before .before .before .before .before .before .before .args .t4) (c .before .before .before .before .before .before .before .before .if1 .left) (not-false _ (c .before .before .before .before .before .before .before .if2 .left)) (c .before .before .before .before .before .before .before .before .before .sixteen .ensures) (c .before .before .before .digest .ensures) (c .before .sixteen2 .ensures) (c .try-key .ensures)
+    let at-digest = c .before .before .before in
+    let at-if2 = at-digest .before .before .before .before in
+    let at-if1 = at-if2 .before in
+    let at-sixteen = at-if1 .before in
+    let start = at-sixteen .before .before in
+    from-secret (start .args .ble) (start .args .public) (start .args .request .now) (held (start .args .keys))
+    (start .args .t4) (at-if1 .if1 .left) (not-false _ (at-if2 .if2 .left)) (at-sixteen .sixteen .ensures)
+    (at-digest .digest .ensures) (c .before .sixteen2 .ensures) (c .try-key .ensures)
 
 pub try-keys-spec : {M : Type 1} → statement M
 try-keys-spec =

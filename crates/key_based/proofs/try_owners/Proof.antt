@@ -19,42 +19,39 @@ loop-holds : tie.Need-loop-holds Inv-loop μ-loop
 loop-holds c = (search needs, refl, c .none-fits .ensures, refl)
 
 cast-try-key : tie.Need-cast-try-key Inv-loop μ-loop
-cast-try-key c = omega (arith, c .before .before .before .before .before .pre .few)
+cast-try-key c =
+    let start = c .before .before .before .before .before in
+    omega (arith, start .pre .few)
 
 try-key-requires : tie.Need-try-key-requires Inv-loop μ-loop
-try-key-requires c κs = omega (arith, c .before .before .before .before .before .pre .few)
+try-key-requires c κs =
+    let start = c .before .before .before .before .before in
+    omega (arith, start .pre .few)
 
 loop-again : tie.Need-loop-again Inv-loop μ-loop
 loop-again c =
-    let p = key-passed (c .before .before .before .before .before .before .before .args .ble)
-    (c .before .before .before .before .before .before .before .args .public)
-    (c .before .before .before .before .before .before .before .args .block)
-    (c .before .before .before .before .before .before .before .args .t3)
-    (c .before .before .before .before .before .before .before .pre)
-    (c .before .before .before .before .before .loop .i)
-    (c .before .before .before .before .before .loop .inv .3)
-    (c .before .before .before .before .loop-test .taken)
-    (c .before .try-key .ensures) (c .if1 .left) in
+    let at-loop-test = c .before .before .before .before in
+    let at-loop = at-loop-test .before in
+    let start = at-loop .before .before in
+    let p = key-passed (start .args .ble) (start .args .public) (start .args .block) (start .args .t3) (start .pre)
+    (at-loop .loop .i) (at-loop .loop .inv .3) (at-loop-test .loop-test .taken) (c .before .try-key .ensures)
+    (c .if1 .left) in
     (search needs, refl, p .0, p .1)
 
 returns : tie.Need-returns Inv-loop μ-loop
 returns c =
-    all-passed (c .before .before .before .args .ble) (c .before .before .before .args .public)
-    (c .before .before .before .args .block) (c .before .before .before .args .t3)
-    (c .before .before .before .pre) (c .before .loop .i) (c .before .loop .inv .3)
-    (c .loop-test .left) (c .before .loop .inv .2)
+    let start = c .before .before .before in
+    all-passed (start .args .ble) (start .args .public) (start .args .block) (start .args .t3) (start .pre)
+    (c .before .loop .i) (c .before .loop .inv .3) (c .loop-test .left) (c .before .loop .inv .2)
 
 returns-2 : tie.Need-returns-2 Inv-loop μ-loop
 returns-2 c =
-    key-fits (c .before .before .before .before .before .before .before .args .ble)
-    (c .before .before .before .before .before .before .before .args .public)
-    (c .before .before .before .before .before .before .before .args .block)
-    (c .before .before .before .before .before .before .before .args .t3)
-    (c .before .before .before .before .before .before .before .pre)
-    (c .before .before .before .before .before .loop .i)
-    (c .before .before .before .before .before .loop .inv .3)
-    (c .before .before .before .before .loop-test .taken)
-    (c .before .try-key .ensures) (c .if1 .taken)
+    let at-loop-test = c .before .before .before .before in
+    let at-loop = at-loop-test .before in
+    let start = at-loop .before .before in
+    key-fits (start .args .ble) (start .args .public) (start .args .block) (start .args .t3) (start .pre)
+    (at-loop .loop .i) (at-loop .loop .inv .3) (at-loop-test .loop-test .taken) (c .before .try-key .ensures)
+    (c .if1 .taken)
 
 pub try-owners-spec : {M : Type 1} → statement M
 try-owners-spec =

@@ -11,14 +11,16 @@ unfolding rule.comparedPasskey
 returns c =
     let at-if1 = c .before .before in
     let at-passkey-in = at-if1 .before .before in
-    rw (eq-eqb _ _ (sym (at-passkey-in .passkey-in .ensures) ∙ at-if1 .if1 .taken)) (c .confirmed .ensures ∙ rw (c .before .moved .ensures))
+    rw (eq-eqb _ _ (sym (at-passkey-in .passkey-in .ensures) ∙ at-if1 .if1 .taken))
+    (c .confirmed .ensures ∙ rw (c .before .moved .ensures))
 
 returns-2 : tie.Need-returns-2
 unfolding rule.comparedPasskey
 returns-2 c =
     let at-if1 = c .before .before in
     let at-passkey-in = at-if1 .before .before in
-    rw (ne-eqb _ _ (λ e. at-if1 .if1 .left (at-passkey-in .passkey-in .ensures ∙ e))) (c .confirmed2 .ensures ∙ rw (c .before .idle .ensures))
+    rw (ne-eqb _ _ (λ e. at-if1 .if1 .left (at-passkey-in .passkey-in .ensures ∙ e)))
+    (c .confirmed2 .ensures ∙ rw (c .before .idle .ensures))
 
 pub compared-spec : {M : Type 1} → statement M
 compared-spec =

@@ -14,7 +14,8 @@ unfolding rule.confirmationNeeded
 returns c =
     let at-in-stage = c .before .before in
     let start = at-in-stage .before in
-    stage-refused Pairing _ (start .args .session) (at-in-stage .in-stage .ensures) (sym (c .before .is-taken .ensures) ∙ not-true _ (c .if1 .taken))
+    stage-refused Pairing _ (start .args .session) (at-in-stage .in-stage .ensures)
+    (sym (c .before .is-taken .ensures) ∙ not-true _ (c .if1 .taken))
 
 returns-2 : tie.Need-returns-2
 unfolding rule.confirmationNeeded
@@ -23,7 +24,9 @@ returns-2 c =
     let at-is-taken = at-if1 .before in
     let at-in-stage = at-is-taken .before in
     let start = at-in-stage .before in
-    c .answered .ensures ∙ ap (rule.answered Taken) (c .before .confirming .ensures) ∙ sym (stage-passed Pairing _ (start .args .session) (at-in-stage .in-stage .ensures) (sym (at-is-taken .is-taken .ensures) ∙ not-false _ (at-if1 .if1 .left)))
+    c .answered .ensures ∙ ap (rule.answered Taken) (c .before .confirming .ensures) ∙ sym
+    (stage-passed Pairing _ (start .args .session) (at-in-stage .in-stage .ensures)
+    (sym (at-is-taken .is-taken .ensures) ∙ not-false _ (at-if1 .if1 .left)))
 
 pub confirmation-needed-spec : {M : Type 1} → statement M
 confirmation-needed-spec =

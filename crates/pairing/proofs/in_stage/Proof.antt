@@ -10,7 +10,9 @@ returns : tie.Need-returns
 returns c =
     let at-is-in = c .before .before in
     let start = at-is-in .before in
-    c .answered .ensures ∙ sym (link-idle (start .args .needed) _ (start .args .session) (sym (at-is-in .is-in .ensures) ∙ c .before .if1 .taken))
+    c .answered .ensures ∙ sym
+    (link-idle (start .args .needed) _ (start .args .session)
+    (sym (at-is-in .is-in .ensures) ∙ c .before .if1 .taken))
 
 returns-2 : tie.Need-returns-2
 returns-2 c =
@@ -18,7 +20,10 @@ returns-2 c =
     let at-if1 = at-is-in2 .before in
     let at-is-in = at-if1 .before in
     let start = at-is-in .before in
-    c .dropped .ensures ∙ sym (wrong-stage (start .args .needed) _ (start .args .session) (sym (at-is-in .is-in .ensures) ∙ at-if1 .if1 .left) (sym (at-is-in2 .is-in2 .ensures) ∙ not-true _ (c .before .if2 .taken)))
+    c .dropped .ensures ∙ sym
+    (wrong-stage (start .args .needed) _ (start .args .session)
+    (sym (at-is-in .is-in .ensures) ∙ at-if1 .if1 .left)
+    (sym (at-is-in2 .is-in2 .ensures) ∙ not-true _ (c .before .if2 .taken)))
 
 returns-3 : tie.Need-returns-3
 returns-3 c =
@@ -26,7 +31,10 @@ returns-3 c =
     let at-if1 = at-is-in2 .before in
     let at-is-in = at-if1 .before in
     let start = at-is-in .before in
-    c .answered2 .ensures ∙ sym (right-stage (start .args .needed) _ (start .args .session) (sym (at-is-in .is-in .ensures) ∙ at-if1 .if1 .left) (sym (at-is-in2 .is-in2 .ensures) ∙ not-false _ (c .before .if2 .left)))
+    c .answered2 .ensures ∙ sym
+    (right-stage (start .args .needed) _ (start .args .session)
+    (sym (at-is-in .is-in .ensures) ∙ at-if1 .if1 .left)
+    (sym (at-is-in2 .is-in2 .ensures) ∙ not-false _ (c .before .if2 .left)))
 
 pub in-stage-spec : {M : Type 1} → statement M
 in-stage-spec =

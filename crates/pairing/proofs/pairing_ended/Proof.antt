@@ -23,7 +23,9 @@ returns-2 c =
     let at-in-stage = c .before .before in
     let at-if1 = at-in-stage .before in
     let start = at-if1 .before in
-    rw (not-false (start .args .success) (at-if1 .if1 .left)) (stage-refused Proved _ (start .args .session) (at-in-stage .in-stage .ensures) (sym (c .before .is-taken .ensures) ∙ not-true _ (c .if2 .taken)))
+    rw (not-false (start .args .success) (at-if1 .if1 .left))
+    (stage-refused Proved _ (start .args .session) (at-in-stage .in-stage .ensures)
+    (sym (c .before .is-taken .ensures) ∙ not-true _ (c .if2 .taken)))
 
 returns-3 : tie.Need-returns-3
 unfolding rule.pairingEnded
@@ -33,7 +35,10 @@ returns-3 c =
     let at-in-stage = at-is-taken .before in
     let at-if1 = at-in-stage .before in
     let start = at-if1 .before in
-    rw (not-false (start .args .success) (at-if1 .if1 .left)) (c .answered .ensures ∙ ap (rule.answered Taken) (c .before .moved .ensures) ∙ sym (stage-passed Proved _ (start .args .session) (at-in-stage .in-stage .ensures) (sym (at-is-taken .is-taken .ensures) ∙ not-false _ (at-if2 .if2 .left))))
+    rw (not-false (start .args .success) (at-if1 .if1 .left))
+    (c .answered .ensures ∙ ap (rule.answered Taken) (c .before .moved .ensures) ∙ sym
+    (stage-passed Proved _ (start .args .session) (at-in-stage .in-stage .ensures)
+    (sym (at-is-taken .is-taken .ensures) ∙ not-false _ (at-if2 .if2 .left))))
 
 pub pairing-ended-spec : {M : Type 1} → statement M
 pairing-ended-spec =

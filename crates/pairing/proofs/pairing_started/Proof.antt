@@ -14,7 +14,8 @@ unfolding rule.pairingStarted
 returns c =
     let at-in-stage = c .before .before in
     let start = at-in-stage .before in
-    stage-refused Asked _ (start .args .session) (at-in-stage .in-stage .ensures) (sym (c .before .is-taken .ensures) ∙ not-true _ (c .if1 .taken))
+    stage-refused Asked _ (start .args .session) (at-in-stage .in-stage .ensures)
+    (sym (c .before .is-taken .ensures) ∙ not-true _ (c .if1 .taken))
 
 returns-2 : tie.Need-returns-2
 unfolding rule.pairingStarted
@@ -24,7 +25,10 @@ returns-2 c =
     let at-is-taken = at-if1 .before in
     let at-in-stage = at-is-taken .before in
     let start = at-in-stage .before in
-    c .dropped .ensures ∙ sym (stage-passed Asked (rule.begun (start .args .clock .0) (start .args .capability)) (start .args .session) (at-in-stage .in-stage .ensures) (sym (at-is-taken .is-taken .ensures) ∙ not-false _ (at-if1 .if1 .left)) ∙ rw (sym (at-is-refused .is-refused .ensures) ∙ c .before .if2 .taken))
+    c .dropped .ensures ∙ sym
+    (stage-passed Asked (rule.begun (start .args .clock .0) (start .args .capability)) (start .args .session)
+    (at-in-stage .in-stage .ensures) (sym (at-is-taken .is-taken .ensures) ∙ not-false _ (at-if1 .if1 .left)) ∙ rw
+    (sym (at-is-refused .is-refused .ensures) ∙ c .before .if2 .taken))
 
 returns-3 : tie.Need-returns-3
 unfolding rule.pairingStarted
@@ -35,7 +39,10 @@ returns-3 c =
     let at-is-taken = at-if1 .before in
     let at-in-stage = at-is-taken .before in
     let start = at-in-stage .before in
-    c .answered .ensures ∙ ap (rule.answered Taken) (c .before .moved .ensures) ∙ sym (stage-passed Asked (rule.begun (start .args .clock .0) (start .args .capability)) (start .args .session) (at-in-stage .in-stage .ensures) (sym (at-is-taken .is-taken .ensures) ∙ not-false _ (at-if1 .if1 .left)) ∙ rw (sym (at-is-refused .is-refused .ensures) ∙ at-if2 .if2 .left))
+    c .answered .ensures ∙ ap (rule.answered Taken) (c .before .moved .ensures) ∙ sym
+    (stage-passed Asked (rule.begun (start .args .clock .0) (start .args .capability)) (start .args .session)
+    (at-in-stage .in-stage .ensures) (sym (at-is-taken .is-taken .ensures) ∙ not-false _ (at-if1 .if1 .left)) ∙ rw
+    (sym (at-is-refused .is-refused .ensures) ∙ at-if2 .if2 .left))
 
 pub pairing-started-spec : {M : Type 1} → statement M
 pairing-started-spec =

@@ -13,7 +13,8 @@ unfolding rule.passkeyWrite
 returns c =
     let at-in-stage = c .before .before in
     let start = at-in-stage .before .before in
-    stage-refused Confirming _ (start .args .session) (at-in-stage .in-stage .ensures) (sym (c .before .is-taken .ensures) ∙ not-true _ (c .if1 .taken))
+    stage-refused Confirming _ (start .args .session) (at-in-stage .in-stage .ensures)
+    (sym (c .before .is-taken .ensures) ∙ not-true _ (c .if1 .taken))
 
 returns-2 : tie.Need-returns-2
 unfolding rule.passkeyWrite
@@ -23,7 +24,12 @@ returns-2 c =
     let at-is-taken = at-if1 .before in
     let at-in-stage = at-is-taken .before in
     let start = at-in-stage .before .before in
-    c .dropped .ensures ∙ sym (stage-passed Confirming (rule.openedPasskey (start .args .clock .0) (start .args .block .now)) (start .args .session) (at-in-stage .in-stage .ensures) (sym (at-is-taken .is-taken .ensures) ∙ not-false _ (at-if1 .if1 .left)) ∙ rw (not-opened 0x02 (start .args .session .key) (start .args .block .now) (at-opened-block .opened-block .ensures) (not-true _ (c .before .if2 .taken))))
+    c .dropped .ensures ∙ sym
+    (stage-passed Confirming (rule.openedPasskey (start .args .clock .0) (start .args .block .now))
+    (start .args .session) (at-in-stage .in-stage .ensures)
+    (sym (at-is-taken .is-taken .ensures) ∙ not-false _ (at-if1 .if1 .left)) ∙ rw
+    (not-opened 0x02 (start .args .session .key) (start .args .block .now)
+    (at-opened-block .opened-block .ensures) (not-true _ (c .before .if2 .taken))))
 
 returns-3 : tie.Need-returns-3
 unfolding rule.passkeyWrite
@@ -34,7 +40,12 @@ returns-3 c =
     let at-is-taken = at-if1 .before in
     let at-in-stage = at-is-taken .before in
     let start = at-in-stage .before .before in
-    let opened = block-opened 0x02 (start .args .session .key) (start .args .block .now) (at-opened-block .opened-block .ensures) (not-false _ (at-if2 .if2 .left)) in c .compared .ensures ∙ ap (rule.comparedPasskey (start .args .clock .0) (start .args .session)) (opened .1) ∙ sym (stage-passed Confirming (rule.openedPasskey (start .args .clock .0) (start .args .block .now)) (start .args .session) (at-in-stage .in-stage .ensures) (sym (at-is-taken .is-taken .ensures) ∙ not-false _ (at-if1 .if1 .left)) ∙ rw (opened .0))
+    let opened = block-opened 0x02 (start .args .session .key) (start .args .block .now)
+    (at-opened-block .opened-block .ensures) (not-false _ (at-if2 .if2 .left)) in c .compared .ensures ∙ ap
+    (rule.comparedPasskey (start .args .clock .0) (start .args .session)) (opened .1) ∙ sym
+    (stage-passed Confirming (rule.openedPasskey (start .args .clock .0) (start .args .block .now))
+    (start .args .session) (at-in-stage .in-stage .ensures)
+    (sym (at-is-taken .is-taken .ensures) ∙ not-false _ (at-if1 .if1 .left)) ∙ rw (opened .0))
 
 pub passkey-checked-spec : {M : Type 1} → statement M
 passkey-checked-spec =

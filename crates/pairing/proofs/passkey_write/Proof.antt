@@ -6,7 +6,7 @@ use lib.ListN.{length, drop}
 use borrow.Author.Tests.{not-true, not-false}
 use Rattle.aes128.proofs.Sizes.{length-cipher}
 use Rattle.basics.specs.Answers.{isTaken}
-use Rattle.pairing.specs.declared.Act.{Act}
+use Rattle.pairing.specs.declared.SessionOutcome.{SessionOutcome}
 use Rattle.pairing.proofs.Laws.{output-kept, output-written, block-placed}
 use borrow.Author.Needs.{needs}
 use Rattle.pairing.proofs.passkey_write.Statement.{statement}
@@ -15,8 +15,13 @@ use Rattle.pairing.proofs.passkey_write.Tie as tie
 returns : tie.Need-returns
 returns c =
     let at-passkey-checked = c .before .before in
-    let start = at-passkey-checked .before .before .before in
-    (at-passkey-checked .passkey-checked .ensures, sym (output-kept (start .args .salt) (start .args .out .now) (start .args .session) _ (ap (λ (a : Act). isTaken (a .answer)) (sym (at-passkey-checked .passkey-checked .ensures)) ∙ sym (c .before .is-taken .ensures) ∙ not-true _ (c .if1 .taken))))
+    let start = at-passkey-checked .before .before .before in (
+      at-passkey-checked .passkey-checked .ensures,
+      sym
+          (output-kept (start .args .salt) (start .args .out .now) (start .args .session) _
+          (ap (λ (a : SessionOutcome). isTaken (a .answer)) (sym (at-passkey-checked .passkey-checked .ensures)) ∙ sym
+          (c .before .is-taken .ensures) ∙ not-true _ (c .if1 .taken))),
+    )
 
 returns-2 : tie.Need-returns-2
 returns-2 c =
@@ -25,8 +30,16 @@ returns-2 c =
     let at-if1 = at-passkey-response .before .before in
     let at-is-taken = at-if1 .before in
     let at-passkey-checked = at-is-taken .before in
-    let start = at-passkey-checked .before .before .before in
-    (at-passkey-checked .passkey-checked .ensures, at-put .put .ensures ∙ block-placed (start .args .out .now) (at-passkey-response .passkey-response .result) (ap length (at-passkey-response .passkey-response .ensures) ∙ length-cipher _ _) ∙ ap (λ (r : List ℕ). r ++ drop 16 (start .args .out .now)) (at-passkey-response .passkey-response .ensures) ∙ sym (output-written (start .args .salt) (start .args .out .now) (start .args .session) _ (ap (λ (a : Act). isTaken (a .answer)) (sym (at-passkey-checked .passkey-checked .ensures)) ∙ sym (at-is-taken .is-taken .ensures) ∙ not-false _ (at-if1 .if1 .left))))
+    let start = at-passkey-checked .before .before .before in (
+      at-passkey-checked .passkey-checked .ensures,
+      at-put .put .ensures ∙ block-placed (start .args .out .now)
+          (at-passkey-response .passkey-response .result)
+          (ap length (at-passkey-response .passkey-response .ensures) ∙ length-cipher _ _) ∙ ap
+          (λ (r : List ℕ). r ++ drop 16 (start .args .out .now)) (at-passkey-response .passkey-response .ensures) ∙ sym
+          (output-written (start .args .salt) (start .args .out .now) (start .args .session) _
+          (ap (λ (a : SessionOutcome). isTaken (a .answer)) (sym (at-passkey-checked .passkey-checked .ensures)) ∙ sym
+          (at-is-taken .is-taken .ensures) ∙ not-false _ (at-if1 .if1 .left))),
+    )
 
 pub passkey-write-spec : {M : Type 1} → statement M
 passkey-write-spec =

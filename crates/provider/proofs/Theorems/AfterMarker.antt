@@ -16,16 +16,16 @@ use Rattle.key_based.proofs.Deciding.{Way, locked, unasked, no-fit, spent, take
 use Rattle.key_based.specs.Decision.{asked}
 use Rattle.key_based.specs.declared.Decision.{Decision}
 use Rattle.key_based.specs.declared.Search.{Search}
-use Rattle.pairing.proofs.Acts.{idle-acts}
-use Rattle.pairing.specs.Pairing.{PairingEvent, acts, storedIn}
-use Rattle.pairing.specs.declared.Act.{Act}
+use Rattle.pairing.proofs.SessionSteps.{idle-step}
+use Rattle.pairing.specs.Pairing.{PairingEvent, sessionStep, storedIn}
+use Rattle.pairing.specs.declared.SessionOutcome.{SessionOutcome}
 use Rattle.provider.proofs.Theorems.SessionPairs.{idle-at-clock}
 use Rattle.provider.proofs.Theorems.Stores.{stores-none}
 use Rattle.provider.proofs.Theorems.Ways as event
 use Rattle.provider.proofs.Theorems.Ways.{way}
 use Rattle.provider.specs.Demands.Gap.{isOf, anyKind, isRequest, needsKey, rules, QuietUntilRequest, AfterMarkers}
 use Rattle.provider.specs.Rules.Device.{Effect, dropAll, clockStep}
-use Rattle.provider.specs.Rules.Event.{DeviceEvent, PairingMode, AddressRotated, FactoryReset, LinkEvent, LinkUp, LinkDown, KeyBasedWrite, OnSession, Event, Overflow, OnDevice, OnLink, early, contextOf, requested, acted, onDevice, onLink, next}
+use Rattle.provider.specs.Rules.Event.{DeviceEvent, PairingMode, AddressRotated, FactoryReset, LinkEvent, LinkUp, LinkDown, KeyBasedWrite, OnSession, Event, Overflow, OnDevice, OnLink, early, contextOf, requested, applied, onDevice, onLink, next}
 use Rattle.provider.specs.declared.Device.{Device}
 use Rattle.request_guard.specs.declared.Guard.{Guard}
 use Rattle.sessions.specs.Sessions.{linkCount, idle, absentSession, sessionAt, atClock}
@@ -135,11 +135,13 @@ module _ (d : Device) (l m t : ℕ) (i : IdleAt l d) where
   }
   on-link-quiet (OnSession e) = record {
     refused = λ n h. not-zero {n = 9} refl
-        (sym (ap (λ (a : Act). answerNumber (a .answer)) (idle-acts t (sessionAt (d .sessions) m) (link-session (is-l _ n)) e)) ∙ h);
-    keys = λ n. ap (λ (a : Act). storedIn a (d .keys))
-        (idle-acts t (sessionAt (d .sessions) m) (link-session (is-l true n)) e);
-    next = inr (set-idle (d .sessions .links) m l (acts e t (sessionAt (d .sessions) m) .session)
-        (λ p. ap (λ (a : Act). a .session .stage) (idle-acts t (sessionAt (d .sessions) m) (link-session p) e) ∙ link-session p) i);
+        (sym (ap (λ (a : SessionOutcome). answerNumber (a .answer))
+        (idle-step t (sessionAt (d .sessions) m) (link-session (is-l _ n)) e)) ∙ h);
+    keys = λ n. ap (λ (a : SessionOutcome). storedIn a (d .keys))
+        (idle-step t (sessionAt (d .sessions) m) (link-session (is-l true n)) e);
+    next = inr (set-idle (d .sessions .links) m l (sessionStep e t (sessionAt (d .sessions) m) .session)
+        (λ p. ap (λ (a : SessionOutcome). a .session .stage)
+        (idle-step t (sessionAt (d .sessions) m) (link-session p) e) ∙ link-session p) i);
   }
 
 device-idle : (e : DeviceEvent) (d : Device) (l : ℕ) → IdleAt l d → IdleAt l (onDevice e d)

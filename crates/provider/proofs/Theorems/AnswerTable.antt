@@ -17,8 +17,8 @@ use Rattle.key_based.specs.Decision.{refused, accepted, saltKnown, settled, tri
 use Rattle.key_based.specs.Request.{sized}
 use Rattle.key_based.specs.declared.Context.{Context}
 use Rattle.key_based.specs.declared.Element.{Element}
-use Rattle.pairing.specs.Pairing.{PairingEvent, PairingStarted, ConfirmationNeeded, PasskeyWrite, PairingEnded, AccountKeyWrite, answered, dropped, inStage, refusedCapability, begun, badBlock, passkeyIn, comparedPasskey, openedPasskey, openedAccountKey, keyStored, confirming, pairingFailed, pairingStarted, confirmationNeeded, passkeyWrite, pairingEnded, accountKeyWrite, acts}
-use Rattle.pairing.specs.declared.Act.{Act}
+use Rattle.pairing.specs.Pairing.{PairingEvent, PairingStarted, ConfirmationNeeded, PasskeyWrite, PairingEnded, AccountKeyWrite, answered, dropped, inStage, refusedCapability, begun, badBlock, passkeyIn, comparedPasskey, openedPasskey, openedAccountKey, keyStored, confirming, pairingFailed, pairingStarted, confirmationNeeded, passkeyWrite, pairingEnded, accountKeyWrite, sessionStep}
+use Rattle.pairing.specs.declared.SessionOutcome.{SessionOutcome}
 use Rattle.provider.specs.Demands.AnswerTable.{Row, row, firstGiven, rowsBeforeClock, rowsOnSession, rowsAfterClock, malformed, rows, AnswerTable}
 use Rattle.provider.specs.Rules.Control.{started, byForm, powerOn}
 use Rattle.provider.specs.Rules.Device.{Effect, answers, takes, dropAll, clockStep, inTime, onKnownLink}
@@ -30,14 +30,15 @@ use Rattle.sessions.specs.declared.Session.{Session}
 use Rattle.sessions.specs.declared.Stage.{Stage}
 use Rattle.sessions.specs.declared.Stage.the-variants.{Idle, Asked, Pairing, Confirming, Proved, Paired}
 
--- the number of an act's answer
-abbrev number : Act → ℕ
+-- the number of the answer
+abbrev number : SessionOutcome → ℕ
 number a = answerNumber (a .answer)
 
 -- ---- pairing, passkey and account key events
 
 -- answers 9 and 10, and the rows that come then
-told-stage : (needed : Stage) (rule : Session → Act) (s : Session) (rs : List Row) → number (rule s) ≡ firstGiven rs
+told-stage : (needed : Stage) (rule : Session → SessionOutcome) (s : Session) (rs : List Row) → number (rule s) ≡
+    firstGiven rs
     → number (inStage needed rule s)
     ≡ firstGiven (row 9 (isStage (s .stage) Idle) ∷ row 10 (not (isStage (s .stage) needed)) ∷ rs)
 unfolding inStage firstGiven
@@ -51,7 +52,7 @@ told-stage needed rule s rs p = go (isStage (s .stage) Idle) (isStage (s .stage)
     go false true = p
 
 -- one row more, 11 or 12
-told-drops : (n : ℕ) (b : Bool) (a : Answer) (x : Act) → answerNumber a ≡ n → number x ≡ 0
+told-drops : (n : ℕ) (b : Bool) (a : Answer) (x : SessionOutcome) → answerNumber a ≡ n → number x ≡ 0
     → number (if b then dropped a else x) ≡ firstGiven (row n b ∷ [])
 unfolding firstGiven
 told-drops n true a x e p = e
@@ -62,11 +63,12 @@ told-compared : (t : ℕ) (s : Session) (plain : List ℕ) → number (comparedP
 unfolding comparedPasskey
 told-compared t s plain = go (eqb (passkeyIn plain) (s .passkey)) _ _ refl refl
   where
-    go : (b : Bool) (x y : Act) → x .answer ≡ Taken → y .answer ≡ Taken → answerNumber ((if b then x else y) .answer) ≡ 0
+    go : (b : Bool) (x y : SessionOutcome) → x .answer ≡ Taken → y .answer ≡ Taken → answerNumber
+        ((if b then x else y) .answer) ≡ 0
     go true x y p q = ap answerNumber p
     go false x y p q = ap answerNumber q
 
-told-session : (e : PairingEvent) (t : ℕ) (s : Session) → number (acts e t s) ≡ firstGiven (rowsOnSession e s)
+told-session : (e : PairingEvent) (t : ℕ) (s : Session) → number (sessionStep e t s) ≡ firstGiven (rowsOnSession e s)
 unfolding firstGiven rowsOnSession pairingStarted confirmationNeeded passkeyWrite pairingEnded accountKeyWrite
 told-session (PairingStarted capability) t s =
     told-stage Asked (begun t capability) s (row 11 (refusedCapability capability) ∷ [])
@@ -171,7 +173,8 @@ answer-table d (PowerOn stored start) = go (reading stored .form) (started (read
 answer-table d (OnDevice t e) = go (ltb t (d .clock .0))
   where
     go : (b : Bool)
-        → answerNumber ((if b then answers (dropAll d) ClockWentBack [] else takes (onDevice e (clockStep t d))) .gives .reply .answer)
+        → answerNumber ((if b then answers (dropAll d) ClockWentBack [] else takes
+        (onDevice e (clockStep t d))) .gives .reply .answer)
         ≡ firstGiven (row 4 b ∷ [])
     go true = refl
     go false = refl

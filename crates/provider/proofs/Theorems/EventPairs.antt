@@ -26,17 +26,17 @@ use Rattle.key_based.specs.Decision.{refused, accepted, saltKnown, settled, tri
 use Rattle.key_based.specs.declared.Decision.{Decision}
 use Rattle.key_based.specs.declared.Element.{Element}
 use Rattle.key_based.specs.declared.Search.{Search}
-use Rattle.pairing.proofs.Acts.{Storable, acts-lawful, idle-acts, refusal-leaves}
+use Rattle.pairing.proofs.SessionSteps.{Storable, step-lawful, idle-step, refusal-leaves}
 use Rattle.sessions.proofs.Laws.{stage-idle}
 use Rattle.pairing.specs.Pairing as pairing
-use Rattle.pairing.specs.Pairing.{PairingEvent, answered, acts, storedIn}
-use Rattle.pairing.specs.declared.Act.{Act}
+use Rattle.pairing.specs.Pairing.{PairingEvent, answered, sessionStep, storedIn}
+use Rattle.pairing.specs.declared.SessionOutcome.{SessionOutcome}
 use Rattle.provider.proofs.Theorems.SessionPairs.{SameOrIdle, same, second-idle, EachSameOrIdle, each-replicate, each-at, each-set, each-expired}
 use Rattle.provider.proofs.Theorems.ValidParts.{no-keys-valid}
 use Rattle.provider.proofs.Theorems.Validity.{stored-valid}
 use Rattle.provider.specs.Rules.Control.{started, byForm, powerOn}
 use Rattle.provider.specs.Rules.Device.{Effect, replyOf, answers, takes, dropAll, withSessions, withKeys, withLink, clockStep, inTime, onKnownLink}
-use Rattle.provider.specs.Rules.Event.{DeviceEvent, PairingMode, AddressRotated, FactoryReset, LinkEvent, LinkUp, LinkDown, KeyBasedWrite, OnSession, Event, Overflow, PowerOn, OnDevice, OnLink, lent, lentOnLink, early, contextOf, requested, acted, onDevice, onLink, step}
+use Rattle.provider.specs.Rules.Event.{DeviceEvent, PairingMode, AddressRotated, FactoryReset, LinkEvent, LinkUp, LinkDown, KeyBasedWrite, OnSession, Event, Overflow, PowerOn, OnDevice, OnLink, lent, lentOnLink, early, contextOf, requested, applied, onDevice, onLink, step}
 use Rattle.provider.specs.declared.Device.{Device}
 use Rattle.provider.specs.declared.Reply.{Reply}
 use Rattle.provider.specs.declared.Start.{Start}
@@ -204,25 +204,30 @@ request-pairs l t request element salt out = record {
         (decidedEffect l salt out d
         (if x then refused (d .guard) (sessionAt (d .sessions) l) LockedOut 0 else
         if y then refused (d .guard) (sessionAt (d .sessions) l) NotInPairingMode 0 else
-        if not z then refused (failedAt t (d .guard)) (sessionAt (d .sessions) l) NoKeyFits (triedKeys (contextOf d) element request .tried) else
-        if w then refused (d .guard) (sessionAt (d .sessions) l) SaltSpent (triedKeys (contextOf d) element request .tried) else
+        if not z then refused (failedAt t (d .guard)) (sessionAt (d .sessions) l) NoKeyFits
+        (triedKeys (contextOf d) element request .tried) else
+        if w then refused (d .guard) (sessionAt (d .sessions) l) SaltSpent
+        (triedKeys (contextOf d) element request .tried) else
         accepted (d .guard) t (triedKeys (contextOf d) element request)))
         (decidedEffect l salt out (withSessions d ss)
         (if x then refused (d .guard) (sessionAt ss l) LockedOut 0 else
         if y then refused (d .guard) (sessionAt ss l) NotInPairingMode 0 else
-        if not z then refused (failedAt t (d .guard)) (sessionAt ss l) NoKeyFits (triedKeys (contextOf d) element request .tried) else
+        if not z then refused (failedAt t (d .guard)) (sessionAt ss l) NoKeyFits
+        (triedKeys (contextOf d) element request .tried) else
         if w then refused (d .guard) (sessionAt ss l) SaltSpent (triedKeys (contextOf d) element request .tried) else
         accepted (d .guard) t (triedKeys (contextOf d) element request)))
     go d ss b true y z w = refused-pair l salt out d ss b (d .guard) LockedOut 0 refl
     go d ss b false true z w = refused-pair l salt out d ss b (d .guard) NotInPairingMode 0 refl
-    go d ss b false false false w = refused-pair l salt out d ss b (failedAt t (d .guard)) NoKeyFits (triedKeys (contextOf d) element request .tried) refl
-    go d ss b false false true true = refused-pair l salt out d ss b (d .guard) SaltSpent (triedKeys (contextOf d) element request .tried) refl
+    go d ss b false false false w = refused-pair l salt out d ss b (failedAt t (d .guard)) NoKeyFits
+        (triedKeys (contextOf d) element request .tried) refl
+    go d ss b false false true true = refused-pair l salt out d ss b (d .guard) SaltSpent
+        (triedKeys (contextOf d) element request .tried) refl
     go d ss b false false true false = accepted-pair l salt out d ss b (d .guard) t (triedKeys (contextOf d) element request)
 
 -- ---- pairing, passkey and account key events
 
--- the first run alone acts: a key that it held changes nothing, and another one parts the runs
-next-alone : (l : ℕ) (a : Act) (u : Session) (d : Device) (ss : Sessions) → Before d ss → u .stage ≡ Idle
+-- the first run alone is served: a key that it held changes nothing, and another one parts the runs
+next-alone : (l : ℕ) (a : SessionOutcome) (u : Session) (d : Device) (ss : Sessions) → Before d ss → u .stage ≡ Idle
     → (a .stores ≡ true → Storable (a .key))
     → Related (withLink (withKeys d (storedIn a (d .keys))) l (a .session)) (withLink (withSessions d ss) l u)
     ⊎ Parted (d .keys) (withLink (withKeys d (storedIn a (d .keys))) l (a .session)) (withLink (withSessions d ss) l u)
@@ -248,53 +253,54 @@ next-alone l a u d ss b e p = go (a .stores) (member (held (d .keys)) (a .key)) 
     go true true q m = inl (related (rw q (sym (stored-held (d .keys) (a .key) (b .valid .canonical) m))))
     go true false q m = inr (record { key = a .key; new = m; first = rw q; valid = valid; second = refl })
 
--- what an act does, and the lent output that it leaves
-abbrev actedEffect : ℕ → Device → Act → List ℕ → Effect
-actedEffect l d a o = record { gives = acted d l a; leaves = o }
+-- the outcome of a session in the device, and the lent output that it leaves
+abbrev appliedEffect : ℕ → Device → SessionOutcome → List ℕ → Effect
+appliedEffect l d a o = record { gives = applied d l a; leaves = o }
 
 session-pairs : (e : PairingEvent) (l t : ℕ) → Pairs (pairing.lent e) (λ d. onLink (OnSession e) d l t)
 session-pairs e l t = record { paired = λ d ss b. go d ss b (each-at (b .links) l) }
   where
     -- the second run's link is idle
     lost : (d : Device) (ss : Sessions) (s u : Session) → Before d ss → u .stage ≡ Idle
-        → Paired (d .keys) (pairing.lent e) (actedEffect l d (acts e t s) (pairing.leaves e t s))
-        (actedEffect l (withSessions d ss) (answered LinkIdle u) (pairing.lent e))
+        → Paired (d .keys) (pairing.lent e) (appliedEffect l d (sessionStep e t s) (pairing.leaves e t s))
+        (appliedEffect l (withSessions d ss) (answered LinkIdle u) (pairing.lent e))
     lost d ss s u b h = record {
       seen = by (isStage (s .stage) Idle) refl;
-      next = next-alone l (acts e t s) u d ss b h (acts-lawful e t s .storable);
+      next = next-alone l (sessionStep e t s) u d ss b h (step-lawful e t s .storable);
     }
       where
         by : (x : Bool) → isStage (s .stage) Idle ≡ x
-            → SameSeen (actedEffect l d (acts e t s) (pairing.leaves e t s))
-            (actedEffect l (withSessions d ss) (answered LinkIdle u) (pairing.lent e))
-            ⊎ OnlySecondIdle (pairing.lent e) (actedEffect l d (acts e t s) (pairing.leaves e t s))
-            (actedEffect l (withSessions d ss) (answered LinkIdle u) (pairing.lent e))
+            → SameSeen (appliedEffect l d (sessionStep e t s) (pairing.leaves e t s))
+            (appliedEffect l (withSessions d ss) (answered LinkIdle u) (pairing.lent e))
+            ⊎ OnlySecondIdle (pairing.lent e) (appliedEffect l d (sessionStep e t s) (pairing.leaves e t s))
+            (appliedEffect l (withSessions d ss) (answered LinkIdle u) (pairing.lent e))
         by true q =
-            let a : acts e t s ≡ answered LinkIdle s = idle-acts t s (stage-idle s q) e in
+            let a : sessionStep e t s ≡ answered LinkIdle s = idle-step t s (stage-idle s q) e in
             inl (
-              ap (λ (x : Act). acted d l x .reply) a,
-              refusal-leaves e t s (ap (λ (x : Act). isTaken (x .answer)) a),
+              ap (λ (x : SessionOutcome). applied d l x .reply) a,
+              refusal-leaves e t s (ap (λ (x : SessionOutcome). isTaken (x .answer)) a),
             )
-        by false q = inr (eqb-false _ 9 (acts-lawful e t s .held q), refl, refl)
+        by false q = inr (eqb-false _ 9 (step-lawful e t s .held q), refl, refl)
 
     go : (d : Device) (ss : Sessions) → Before d ss → {s u : Session} → SameOrIdle s u
-        → Paired (d .keys) (pairing.lent e) (actedEffect l d (acts e t s) (pairing.leaves e t s))
-        (actedEffect l (withSessions d ss) (acts e t u) (pairing.leaves e t u))
+        → Paired (d .keys) (pairing.lent e) (appliedEffect l d (sessionStep e t s) (pairing.leaves e t s))
+        (appliedEffect l (withSessions d ss) (sessionStep e t u) (pairing.leaves e t u))
     go d ss b {s} same = record {
       seen = inl (refl, refl);
       next = inl (record {
         same = refl;
         before = before-set l same (record {
           links = b .links;
-          valid = stored-valid (acts e t s) (d .keys) (b .valid) (acts-lawful e t s .storable);
+          valid = stored-valid (sessionStep e t s) (d .keys) (b .valid) (step-lawful e t s .storable);
         });
       });
     }
     go d ss b {s} {u} (second-idle h) =
-        let a : acts e t u ≡ answered LinkIdle u = idle-acts t u h e in
-        subst (λ (y : Effect). Paired (d .keys) (pairing.lent e) (actedEffect l d (acts e t s) (pairing.leaves e t s)) y)
-        (λ i. actedEffect l (withSessions d ss) (sym a i)
-        (sym (refusal-leaves e t u (ap (λ (x : Act). isTaken (x .answer)) a)) i))
+        let a : sessionStep e t u ≡ answered LinkIdle u = idle-step t u h e in
+        subst (λ (y : Effect). Paired (d .keys) (pairing.lent e)
+        (appliedEffect l d (sessionStep e t s) (pairing.leaves e t s)) y)
+        (λ i. appliedEffect l (withSessions d ss) (sym a i)
+        (sym (refusal-leaves e t u (ap (λ (x : SessionOutcome). isTaken (x .answer)) a)) i))
         (lost d ss s u b h)
 
 -- ---- every event

@@ -12,9 +12,9 @@ use Rattle.basics.specs.declared.Answer.{Answer}
 use Rattle.key_based.proofs.Deciding.{Way, locked, unasked, no-fit, spent, taken, decided-way}
 use Rattle.key_based.specs.declared.Decision.{Decision}
 use Rattle.key_based.specs.declared.Search.{Search}
-use Rattle.pairing.proofs.Acts.{OnSessions, acts-lawful}
-use Rattle.pairing.proofs.Acts as act
-use Rattle.pairing.specs.Pairing.{acts}
+use Rattle.pairing.proofs.SessionSteps.{OnSessions, step-lawful}
+use Rattle.pairing.proofs.SessionSteps as session-answer
+use Rattle.pairing.specs.Pairing.{sessionStep}
 use Rattle.provider.proofs.Theorems.Refusals.{early-ways}
 use Rattle.provider.proofs.Theorems.Ways as event
 use Rattle.provider.proofs.Theorems.Ways.{way}
@@ -58,11 +58,11 @@ module _ (d : Device) {l m : ℕ} (t : ℕ) (h : m ≡ l → ⊥) where
 
   -- answers 0 and 9 to 12
   late : {a : Answer} → OnSessions a → (s : Session) → atClock t s ≡ otherSession a t s
-  late act.taken s = refl
-  late act.link-idle s = refl
-  late act.wrong-stage s = refl
-  late act.capability-refused s = refl
-  late act.bad-block s = refl
+  late session-answer.taken s = refl
+  late session-answer.link-idle s = refl
+  late session-answer.wrong-stage s = refl
+  late session-answer.capability-refused s = refl
+  late session-answer.bad-block s = refl
 
   on-link-apart : (e : LinkEvent)
       → sessionAt (onLink e (clockStep t d) m t .gives .next .sessions) l
@@ -72,7 +72,7 @@ module _ (d : Device) {l m : ℕ} (t : ℕ) (h : m ≡ l → ⊥) where
   on-link-apart (KeyBasedWrite request element salt out) =
       decision-apart (decided-way (contextOf (clockStep t d)) (sessionAt (clockStep t d .sessions) m) t element request)
   on-link-apart (OnSession e) =
-      stepped _ ∙ late (acts-lawful e t (sessionAt (clockStep t d .sessions) m) .answer) (sessionAt (d .sessions) l)
+      stepped _ ∙ late (step-lawful e t (sessionAt (clockStep t d .sessions) m) .answer) (sessionAt (d .sessions) l)
 
 pub links-apart : LinksApart
 links-apart d m t e l k h = go (way d (OnLink m t e))

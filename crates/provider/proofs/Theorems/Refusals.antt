@@ -17,17 +17,17 @@ use Rattle.key_based.specs.Decision.{triedKeys, decided}
 use Rattle.key_based.specs.Request.{sized}
 use Rattle.key_based.specs.declared.Decision.{Decision}
 use Rattle.key_based.specs.declared.Element.{Element}
-use Rattle.pairing.proofs.Acts.{OnSessions, refusedSession, acts-lawful, refusal-leaves}
-use Rattle.pairing.proofs.Acts as act
-use Rattle.pairing.specs.Pairing.{PairingEvent, PairingStarted, ConfirmationNeeded, PasskeyWrite, PairingEnded, AccountKeyWrite, acts, storedIn}
-use Rattle.pairing.specs.declared.Act.{Act}
+use Rattle.pairing.proofs.SessionSteps.{OnSessions, refusedSession, step-lawful, refusal-leaves}
+use Rattle.pairing.proofs.SessionSteps as session-answer
+use Rattle.pairing.specs.Pairing.{PairingEvent, PairingStarted, ConfirmationNeeded, PasskeyWrite, PairingEnded, AccountKeyWrite, sessionStep, storedIn}
+use Rattle.pairing.specs.declared.SessionOutcome.{SessionOutcome}
 use Rattle.pairing.specs.declared.Confirm.{Confirm}
 use Rattle.key_based.specs.Request.{noBond}
 use Rattle.provider.proofs.Theorems.Ways as event
 use Rattle.provider.proofs.Theorems.Ways.{way}
 use Rattle.provider.specs.Demands.Refusals.{changed, refusedNext, Refusals, triedOnLink, triedIn, toldTried, NumberTried, refusing, RefusalsHandOutOnlyTried}
 use Rattle.provider.specs.Rules.Device.{Effect, clockStep, withSessions, withKeys, withLink}
-use Rattle.provider.specs.Rules.Event.{LinkEvent, LinkUp, LinkDown, KeyBasedWrite, OnSession, Event, OnLink, lentOnLink, lent, early, contextOf, requested, acted, onLink, step}
+use Rattle.provider.specs.Rules.Event.{LinkEvent, LinkUp, LinkDown, KeyBasedWrite, OnSession, Event, OnLink, lentOnLink, lent, early, contextOf, requested, applied, onLink, step}
 use Rattle.provider.specs.declared.Device.{Device}
 use Rattle.provider.specs.declared.Reply.{Reply}
 use Rattle.sessions.specs.Sessions.{absentSession, sessionAt}
@@ -42,7 +42,8 @@ record Tells (d : Device) (e : Event) (x : Effect) : Type 0 where
 
 -- a session put back leaves the device as it was
 pub same-link : (d : Device) (l : ℕ) → withLink d l (sessionAt (d .sessions) l) ≡ d
-same-link d l = ap (λ (ls : List Session). withSessions d (record { links = ls })) (set-getD (d .sessions .links) l absentSession)
+same-link d l = ap (λ (ls : List Session). withSessions d (record { links = ls }))
+    (set-getD (d .sessions .links) l absentSession)
 
 -- ---- answers 2, 3 and 13
 
@@ -114,28 +115,29 @@ module _ (d : Device) (l t : ℕ) where
   -- 9 leaves the link as it was, and 10, 11 and 12 drop its K
   session-changed : {a : Answer} → OnSessions a → isTaken a ≡ false
       → withLink (clockStep t d) l (refusedSession a (sessionAt (clockStep t d .sessions) l)) ≡ changed a d l t
-  session-changed act.taken h = absurd (true-is (sym h))
-  session-changed act.link-idle h = same-link (clockStep t d) l
-  session-changed act.wrong-stage h = refl
-  session-changed act.capability-refused h = refl
-  session-changed act.bad-block h = refl
+  session-changed session-answer.taken h = absurd (true-is (sym h))
+  session-changed session-answer.link-idle h = same-link (clockStep t d) l
+  session-changed session-answer.wrong-stage h = refl
+  session-changed session-answer.capability-refused h = refl
+  session-changed session-answer.bad-block h = refl
 
   module _ (e : PairingEvent) where
-    session-next : isTaken (acts e t (sessionAt (clockStep t d .sessions) l) .answer) ≡ false
-        → acted (clockStep t d) l (acts e t (sessionAt (clockStep t d .sessions) l)) .next
-        ≡ changed (acts e t (sessionAt (clockStep t d .sessions) l) .answer) d l t
+    session-next : isTaken (sessionStep e t (sessionAt (clockStep t d .sessions) l) .answer) ≡ false
+        → applied (clockStep t d) l (sessionStep e t (sessionAt (clockStep t d .sessions) l)) .next
+        ≡ changed (sessionStep e t (sessionAt (clockStep t d .sessions) l) .answer) d l t
     session-next h =
-        let p = acts-lawful e t (sessionAt (clockStep t d .sessions) l) in
-        ap (λ (a : Act). withLink (withKeys (clockStep t d) (storedIn a (clockStep t d .keys))) l (a .session)) (p .refusal h)
+        let p = step-lawful e t (sessionAt (clockStep t d .sessions) l) in
+        ap (λ (a : SessionOutcome). withLink (withKeys (clockStep t d) (storedIn a (clockStep t d .keys))) l
+        (a .session)) (p .refusal h)
         ∙ session-changed (p .answer) h
 
-    session-reply : isTaken (acts e t (sessionAt (clockStep t d .sessions) l) .answer) ≡ false
-        → acted (clockStep t d) l (acts e t (sessionAt (clockStep t d .sessions) l)) .reply
-        ≡ refusing (acted (clockStep t d) l (acts e t (sessionAt (clockStep t d .sessions) l)) .reply)
+    session-reply : isTaken (sessionStep e t (sessionAt (clockStep t d .sessions) l) .answer) ≡ false
+        → applied (clockStep t d) l (sessionStep e t (sessionAt (clockStep t d .sessions) l)) .reply
+        ≡ refusing (applied (clockStep t d) l (sessionStep e t (sessionAt (clockStep t d .sessions) l)) .reply)
     session-reply h =
-        let p = acts-lawful e t (sessionAt (clockStep t d .sessions) l) in
+        let p = step-lawful e t (sessionAt (clockStep t d .sessions) l) in
         λ i. record {
-          answer = acts e t (sessionAt (clockStep t d .sessions) l) .answer;
+          answer = sessionStep e t (sessionAt (clockStep t d .sessions) l) .answer;
           tried = 0;
           bond = noBond;
           confirm = p .refusal h i .confirm;
@@ -165,7 +167,7 @@ told-on-link d l t (OnSession e) = record {
     session-next d l t e h,
     session-reply d l t e h,
   );
-  tried = none-tried (isOneOf (0 ∷ 7 ∷ 8 ∷ []) (acts e t (sessionAt (clockStep t d .sessions) l) .answer));
+  tried = none-tried (isOneOf (0 ∷ 7 ∷ 8 ∷ []) (sessionStep e t (sessionAt (clockStep t d .sessions) l) .answer));
 }
 
 told : (d : Device) {e : Event} {x : Effect} → event.Way d e x → Tells d e x

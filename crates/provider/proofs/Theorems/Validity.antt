@@ -18,15 +18,15 @@ use Rattle.key_based.proofs.Deciding.{Way, locked, unasked, no-fit, spent, take
 use Rattle.key_based.specs.Decision.{asked}
 use Rattle.key_based.specs.declared.Decision.{Decision}
 use Rattle.key_based.specs.declared.Search.{Search}
-use Rattle.pairing.proofs.Acts.{Lawful, Storable, in-a-stage, acts-lawful}
-use Rattle.pairing.specs.Pairing.{acts, storedIn}
-use Rattle.pairing.specs.declared.Act.{Act}
+use Rattle.pairing.proofs.SessionSteps.{Lawful, Storable, in-a-stage, step-lawful}
+use Rattle.pairing.specs.Pairing.{sessionStep, storedIn}
+use Rattle.pairing.specs.declared.SessionOutcome.{SessionOutcome}
 use Rattle.provider.proofs.Theorems.ValidParts.{idle-holds-nothing, no-keys-valid, keys-valid, guard-valid, beacon-valid, link-valid, dropAt-valid, dropAll-valid, clockStep-valid, started-valid}
 use Rattle.provider.proofs.Theorems.Ways as event
 use Rattle.provider.proofs.Theorems.Ways.{way}
 use Rattle.provider.specs.Demands.Validity.{Valid, StaysValid, StartsValid, StoredListReadsBack}
 use Rattle.provider.specs.Rules.Device.{Effect, clockStep, withKeys}
-use Rattle.provider.specs.Rules.Event.{DeviceEvent, PairingMode, AddressRotated, FactoryReset, LinkEvent, LinkUp, LinkDown, KeyBasedWrite, OnSession, Event, PowerOn, contextOf, requested, acted, onDevice, onLink}
+use Rattle.provider.specs.Rules.Event.{DeviceEvent, PairingMode, AddressRotated, FactoryReset, LinkEvent, LinkUp, LinkDown, KeyBasedWrite, OnSession, Event, PowerOn, contextOf, requested, applied, onDevice, onLink}
 use Rattle.provider.specs.declared.Device.{Device}
 use Rattle.request_guard.proofs.Laws.{fresh-valid, accepted-valid, failed-valid}
 use Rattle.request_guard.specs.Guard.{fresh}
@@ -36,7 +36,7 @@ use Rattle.sessions.specs.declared.Session.{Session}
 -- ---- events on a link
 
 -- an account key that may be stored
-pub stored-valid : (a : Act) (ks : AccountKeys) → keys.Valid ks → (a .stores ≡ true → Storable (a .key))
+pub stored-valid : (a : SessionOutcome) (ks : AccountKeys) → keys.Valid ks → (a .stores ≡ true → Storable (a .key))
     → keys.Valid (storedIn a ks)
 stored-valid a ks v p = go (a .stores) refl
   where
@@ -58,8 +58,8 @@ module _ {d : Device} (v : Valid d) (l : ℕ) (k : l < linkCount) where
   decision-valid {t} {f} (taken p) =
       link-valid (guard-valid v _ (accepted-valid (d .guard) (v .guard) _ p)) l _ (in-a-stage (asked (f .key) t) refl)
 
-  act-valid : {a : Act} → Lawful (sessionAt (d .sessions) l) a → Valid (acted d l a .next)
-  act-valid {a} p =
+  applied-valid : {a : SessionOutcome} → Lawful (sessionAt (d .sessions) l) a → Valid (applied d l a .next)
+  applied-valid {a} p =
       link-valid (keys-valid v _ (stored-valid a (d .keys) (v .keys) (p .storable))) l (a .session)
       (p .session session-canonical)
 
@@ -68,7 +68,7 @@ module _ {d : Device} (v : Valid d) (l : ℕ) (k : l < linkCount) where
   on-link-valid LinkDown t = dropAt-valid v l
   on-link-valid (KeyBasedWrite request element salt out) t =
       decision-valid (decided-way (contextOf d) (sessionAt (d .sessions) l) t element request)
-  on-link-valid (OnSession e) t = act-valid (acts-lawful e t (sessionAt (d .sessions) l))
+  on-link-valid (OnSession e) t = applied-valid (step-lawful e t (sessionAt (d .sessions) l))
 
 -- ---- every event
 

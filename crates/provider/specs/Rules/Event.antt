@@ -14,9 +14,9 @@ use Rattle.key_based.specs.Request.{noBond, sized}
 use Rattle.key_based.specs.declared.Context.{Context}
 use Rattle.key_based.specs.declared.Decision.{Decision}
 use Rattle.key_based.specs.declared.Element.{Element}
-use Rattle.pairing.specs.Pairing.{PairingEvent, PairingStarted, ConfirmationNeeded, PasskeyWrite, PairingEnded, AccountKeyWrite, acts, storedIn}
+use Rattle.pairing.specs.Pairing.{PairingEvent, PairingStarted, ConfirmationNeeded, PasskeyWrite, PairingEnded, AccountKeyWrite, sessionStep, storedIn}
 use Rattle.pairing.specs.Pairing as pairing
-use Rattle.pairing.specs.declared.Act.{Act}
+use Rattle.pairing.specs.declared.SessionOutcome.{SessionOutcome}
 use Rattle.pairing.specs.declared.Confirm.the-variants.{Unasked}
 use Rattle.provider.specs.Rules.Control.{overflow, pairingMode, addressRotated, factoryReset, powerOn}
 use Rattle.provider.specs.Rules.Device.{Effect, takes, inTime, onKnownLink, withKeys, withGuard, withLink, dropAt}
@@ -113,9 +113,9 @@ requested d l r =
       reply = record { answer = r .answer; tried = r .tried; bond = r .bond; confirm = Unasked };
     }
 
--- and after an event that acted so on its session
-abbrev pub acted : Device → ℕ → Act → Outcome
-acted d l a =
+-- and with what an event made of its session
+abbrev pub applied : Device → ℕ → SessionOutcome → Outcome
+applied d l a =
     record {
       next = withLink (withKeys d (storedIn a (d .keys))) l (a .session);
       reply = record { answer = a .answer; tried = 0; bond = noBond; confirm = a .confirm };
@@ -133,7 +133,7 @@ onLink (KeyBasedWrite request element salt out) d l t =
     }
 onLink (OnSession e) d l t =
     record {
-      gives = acted d l (acts e t (sessionAt (d .sessions) l));
+      gives = applied d l (sessionStep e t (sessionAt (d .sessions) l));
       leaves = pairing.leaves e t (sessionAt (d .sessions) l);
     }
 

@@ -20,17 +20,19 @@ unfolding hashed
 loop-holds c = (search needs, refl, refl)
 
 loop-again : tie.Need-loop-again Inv-loop μ-loop
-loop-again c = (
-  search needs,
-  c .before .before .before .loop .inv .1,
-  hashed-more _ _ _
-      (c .before .before .before .loop .inv .2) (block-lent _ _) (c .compress .ensures),
-)
+loop-again c =
+    let at-loop = c .before .before .before in (
+      search needs,
+      at-loop .loop .inv .1,
+      hashed-more _ _ _ (at-loop .loop .inv .2) (block-lent _ _)
+          (c .compress .ensures),
+    )
 
 returns : tie.Need-returns Inv-loop μ-loop
 returns c =
-    rw (← c .before .loop .inv .1) (at-limit (λ k. c .before .loop .s ≡ hashed
-    (c .before .before .before .args .h) (c .before .before .before .args .src .now) k)
+    let start = c .before .before .before in
+    rw (← c .before .loop .inv .1)
+    (at-limit (λ k. c .before .loop .s ≡ hashed (start .args .h) (start .args .src .now) k)
     (c .before .loop .inv .0) (c .loop-test .left) (c .before .loop .inv .2))
 
 pub absorb-spec : {M : Type 1} → statement M

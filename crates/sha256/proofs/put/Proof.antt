@@ -20,7 +20,9 @@ loop-holds : tie.Need-loop-holds Inv-loop μ-loop
 loop-holds c = (search needs, paste-zero (c .args .t1) (c .args .at) (c .args .src .now))
 
 array-write-blocks : tie.Need-array-write-blocks Inv-loop μ-loop
-array-write-blocks c = omega (arith, c .before .before .before .pre)
+array-write-blocks c =
+    let start = c .before .before .before in
+    omega (arith, start .pre)
 
 loop-again : tie.Need-loop-again Inv-loop μ-loop
 loop-again c =

@@ -4,40 +4,45 @@ use borrow.Author.Tests.{not-true, not-false}
 use borrow.Author.Needs.{needs}
 use Rattle.capi.specs.Calls.{told, writtenTo}
 use Rattle.provider.specs.Rules.Control.{advertised}
-use Rattle.capi.specs.Packed.{promptOf}
+use Rattle.capi.specs.Calls.{promptOf}
 use Rattle.capi.proofs.Laws.{read-valid, tells, writes, tells-nothing, writes-nothing}
 use Rattle.capi.proofs.asking.fp_advertisement.Statement.{statement}
 use Rattle.capi.proofs.asking.fp_advertisement.Tie as tie
 
 returns : tie.Need-returns
 returns c =
-    let a = c .before .before .before .before .before .args in (
-      tells-nothing (a .device) (c .before .before .before .unpack .ensures) (λ d. advertised d (promptOf (a
-          .hide))) (a .out .now) (not-true _ (c .before .if1 .taken)) (c .no-report .ensures),
-      writes-nothing (a
-          .device) (c .before .before .before .unpack .ensures) (λ d. advertised d (promptOf (a .hide))) (a .out .now)
+    let at-unpack = c .before .before .before in
+    let start = at-unpack .before .before in
+    let a = start .args in (
+      tells-nothing (a .device) (at-unpack .unpack .ensures) (λ d. advertised d (promptOf (a .hide))) (a .out .now)
+          (not-true _ (c .before .if1 .taken)) (c .no-report .ensures),
+      writes-nothing (a .device)
+          (at-unpack .unpack .ensures) (λ d. advertised d (promptOf (a .hide))) (a .out .now)
           (not-true _ (c .before .if1 .taken)),
     )
 
 advertisement-requires : tie.Need-advertisement-requires
 advertisement-requires c κs =
-    read-valid (c .before .before .before .before .before .before .before .args .device) (c .before .before
-    .before .before .before .unpack .ensures)
+    let at-unpack = c .before .before .before .before .before in
+    let start = at-unpack .before .before in
+    read-valid (start .args .device) (at-unpack .unpack .ensures)
 
 returns-2 : tie.Need-returns-2
 returns-2 c =
-    let a = c .before .before .before .before .before .before .before .before .before .before .before .args in (
-      tells (a .device) (c .before .before .before .before .before .before .before .before .before .unpack
-          .ensures) (λ d. advertised d (c .before .before .before .before .before .read-prompt .result)) (a .out .now)
-          (not-false _ (c .before .before .before .before .before .before .before .if1 .left)) (c .before .before
-          .before .advertisement .ensures .0) (c .pack-report .ensures) ∙ ap (λ p. told (a .device) (λ d. advertised d
-          p) (a .out .now)) (c .before .before .before .before .before .read-prompt .ensures),
-      writes (a .device) (c
-          .before .before .before .before .before .before .before .before .before .unpack .ensures) (λ d. advertised d
-          (c .before .before .before .before .before .read-prompt .result)) (a .out .now) (not-false _ (c .before
-          .before .before .before .before .before .before .if1 .left)) (c .before .before .before .advertisement
-          .ensures .1) ∙ ap (λ p. writtenTo (a .device) (λ d. advertised d p) (a .out .now)) (c .before .before .before
-          .before .before .read-prompt .ensures),
+    let at-advertisement = c .before .before .before in
+    let at-read-prompt = at-advertisement .before .before in
+    let at-if1 = at-read-prompt .before .before in
+    let at-unpack = at-if1 .before .before in
+    let start = at-unpack .before .before in
+    let a = start .args in (
+      tells (a .device) (at-unpack .unpack .ensures) (λ d. advertised d (at-read-prompt .read-prompt .result))
+          (a .out .now) (not-false _ (at-if1 .if1 .left)) (at-advertisement .advertisement .ensures .0)
+          (c .pack-report .ensures) ∙ ap (λ p. told (a .device) (λ d. advertised d p) (a .out .now))
+          (at-read-prompt .read-prompt .ensures),
+      writes (a .device) (at-unpack .unpack .ensures)
+          (λ d. advertised d (at-read-prompt .read-prompt .result)) (a .out .now) (not-false _ (at-if1 .if1 .left))
+          (at-advertisement .advertisement .ensures .1) ∙ ap
+          (λ p. writtenTo (a .device) (λ d. advertised d p) (a .out .now)) (at-read-prompt .read-prompt .ensures),
     )
 
 pub fp-advertisement-spec : {M : Type 1} → statement M

@@ -8,28 +8,33 @@ use Rattle.capi.proofs.asking.fp_stored_list.Tie as tie
 
 returns : tie.Need-returns
 returns c =
-    let a = c .before .before .before .before .before .args in (
-      tells-nothing (a .device) (c .before .before .before .unpack .ensures) written (a .out .now) (not-true _ (c
-          .before .if1 .taken)) (c .no-report .ensures),
-      writes-nothing (a .device) (c .before .before .before .unpack
-          .ensures) written (a .out .now) (not-true _ (c .before .if1 .taken)),
+    let at-unpack = c .before .before .before in
+    let start = at-unpack .before .before in
+    let a = start .args in (
+      tells-nothing (a .device) (at-unpack .unpack .ensures) written (a .out .now)
+          (not-true _ (c .before .if1 .taken)) (c .no-report .ensures),
+      writes-nothing (a .device)
+          (at-unpack .unpack .ensures) written (a .out .now) (not-true _ (c .before .if1 .taken)),
     )
 
 stored-list-requires : tie.Need-stored-list-requires
 stored-list-requires c κs =
-    read-valid (c .before .before .before .before .before .before .args .device) (c .before .before .before
-    .before .unpack .ensures)
+    let at-unpack = c .before .before .before .before in
+    let start = at-unpack .before .before in
+    read-valid (start .args .device) (at-unpack .unpack .ensures)
 
 returns-2 : tie.Need-returns-2
 returns-2 c =
-    let a = c .before .before .before .before .before .before .before .before .before .before .args in (
-      tells (a .device) (c .before .before .before .before .before .before .before .before .unpack .ensures)
-          written (a .out .now) (not-false _ (c .before .before .before .before .before .before .if1 .left)) (c .before
-          .before .before .stored-list .ensures .0) (c .pack-report .ensures),
-      writes (a .device) (c .before .before
-          .before .before .before .before .before .before .unpack .ensures) written (a .out .now) (not-false _ (c
-          .before .before .before .before .before .before .if1 .left)) (c .before .before .before .stored-list .ensures
-          .1),
+    let at-stored-list = c .before .before .before in
+    let at-if1 = at-stored-list .before .before .before in
+    let at-unpack = at-if1 .before .before in
+    let start = at-unpack .before .before in
+    let a = start .args in (
+      tells (a .device) (at-unpack .unpack .ensures) written (a .out .now) (not-false _ (at-if1 .if1 .left))
+          (at-stored-list .stored-list .ensures .0) (c .pack-report .ensures),
+      writes (a .device)
+          (at-unpack .unpack .ensures) written (a .out .now) (not-false _ (at-if1 .if1 .left))
+          (at-stored-list .stored-list .ensures .1),
     )
 
 pub fp-stored-list-spec : {M : Type 1} → statement M

@@ -10,7 +10,9 @@ returns : tie.Need-returns
 returns c =
     let at-unpack = c .before .before .before in
     let start = at-unpack .before in
-    served-unknown (start .args .device) (at-unpack .unpack .ensures) (OnDevice (start .args .clock) (AddressRotated (start .args .ble) (start .args .salt .now))) (not-true (at-unpack .unpack .result .known) (c .before .if1 .taken)) (c .returned .ensures)
+    served-unknown (start .args .device) (at-unpack .unpack .ensures)
+    (OnDevice (start .args .clock) (AddressRotated (start .args .ble) (start .args .salt .now)))
+    (not-true (at-unpack .unpack .result .known) (c .before .if1 .taken)) (c .returned .ensures)
 
 address-rotated-requires : tie.Need-address-rotated-requires
 address-rotated-requires c κs =
@@ -22,14 +24,19 @@ pack-outcome-requires : tie.Need-pack-outcome-requires
 pack-outcome-requires c κs =
     let at-unpack = c .before .before .before .before .before in
     let start = at-unpack .before in
-    next-valid (start .args .device) (at-unpack .unpack .ensures) (OnDevice (start .args .clock) (AddressRotated (start .args .ble) (start .args .salt .now))) (c .address-rotated .ensures)
+    next-valid (start .args .device) (at-unpack .unpack .ensures)
+    (OnDevice (start .args .clock) (AddressRotated (start .args .ble) (start .args .salt .now)))
+    (c .address-rotated .ensures)
 
 returns-2 : tie.Need-returns-2
 returns-2 c =
     let at-if1 = c .before .before .before .before in
     let at-unpack = at-if1 .before .before in
     let start = at-unpack .before in
-    served-known (start .args .device) (at-unpack .unpack .ensures) (OnDevice (start .args .clock) (AddressRotated (start .args .ble) (start .args .salt .now))) (not-false (at-unpack .unpack .result .known) (at-if1 .if1 .left)) (c .before .address-rotated .ensures) (c .pack-outcome .ensures)
+    served-known (start .args .device) (at-unpack .unpack .ensures)
+    (OnDevice (start .args .clock) (AddressRotated (start .args .ble) (start .args .salt .now)))
+    (not-false (at-unpack .unpack .result .known) (at-if1 .if1 .left)) (c .before .address-rotated .ensures)
+    (c .pack-outcome .ensures)
 
 pub fp-address-rotated-spec : {M : Type 1} → statement M
 fp-address-rotated-spec =

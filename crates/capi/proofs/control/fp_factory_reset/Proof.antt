@@ -10,7 +10,8 @@ returns : tie.Need-returns
 returns c =
     let at-unpack = c .before .before .before in
     let start = at-unpack .before in
-    served-unknown (start .args .device) (at-unpack .unpack .ensures) (OnDevice (start .args .clock) FactoryReset) (not-true (at-unpack .unpack .result .known) (c .before .if1 .taken)) (c .returned .ensures)
+    served-unknown (start .args .device) (at-unpack .unpack .ensures) (OnDevice (start .args .clock) FactoryReset)
+    (not-true (at-unpack .unpack .result .known) (c .before .if1 .taken)) (c .returned .ensures)
 
 factory-reset-requires : tie.Need-factory-reset-requires
 factory-reset-requires c κs =
@@ -22,14 +23,17 @@ pack-outcome-requires : tie.Need-pack-outcome-requires
 pack-outcome-requires c κs =
     let at-unpack = c .before .before .before .before in
     let start = at-unpack .before in
-    next-valid (start .args .device) (at-unpack .unpack .ensures) (OnDevice (start .args .clock) FactoryReset) (c .factory-reset .ensures)
+    next-valid (start .args .device) (at-unpack .unpack .ensures) (OnDevice (start .args .clock) FactoryReset)
+    (c .factory-reset .ensures)
 
 returns-2 : tie.Need-returns-2
 returns-2 c =
     let at-if1 = c .before .before .before in
     let at-unpack = at-if1 .before .before in
     let start = at-unpack .before in
-    served-known (start .args .device) (at-unpack .unpack .ensures) (OnDevice (start .args .clock) FactoryReset) (not-false (at-unpack .unpack .result .known) (at-if1 .if1 .left)) (c .before .factory-reset .ensures) (c .pack-outcome .ensures)
+    served-known (start .args .device) (at-unpack .unpack .ensures) (OnDevice (start .args .clock) FactoryReset)
+    (not-false (at-unpack .unpack .result .known) (at-if1 .if1 .left)) (c .before .factory-reset .ensures)
+    (c .pack-outcome .ensures)
 
 pub fp-factory-reset-spec : {M : Type 1} → statement M
 fp-factory-reset-spec =

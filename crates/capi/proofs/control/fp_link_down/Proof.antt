@@ -10,7 +10,9 @@ returns : tie.Need-returns
 returns c =
     let at-unpack = c .before .before .before in
     let start = at-unpack .before in
-    served-unknown (start .args .device) (at-unpack .unpack .ensures) (OnLink (start .args .link) (start .args .clock) LinkDown) (not-true (at-unpack .unpack .result .known) (c .before .if1 .taken)) (c .returned .ensures)
+    served-unknown (start .args .device) (at-unpack .unpack .ensures)
+    (OnLink (start .args .link) (start .args .clock) LinkDown)
+    (not-true (at-unpack .unpack .result .known) (c .before .if1 .taken)) (c .returned .ensures)
 
 link-down-requires : tie.Need-link-down-requires
 link-down-requires c κs =
@@ -22,14 +24,18 @@ pack-outcome-requires : tie.Need-pack-outcome-requires
 pack-outcome-requires c κs =
     let at-unpack = c .before .before .before .before in
     let start = at-unpack .before in
-    next-valid (start .args .device) (at-unpack .unpack .ensures) (OnLink (start .args .link) (start .args .clock) LinkDown) (c .link-down .ensures)
+    next-valid (start .args .device) (at-unpack .unpack .ensures)
+    (OnLink (start .args .link) (start .args .clock) LinkDown) (c .link-down .ensures)
 
 returns-2 : tie.Need-returns-2
 returns-2 c =
     let at-if1 = c .before .before .before in
     let at-unpack = at-if1 .before .before in
     let start = at-unpack .before in
-    served-known (start .args .device) (at-unpack .unpack .ensures) (OnLink (start .args .link) (start .args .clock) LinkDown) (not-false (at-unpack .unpack .result .known) (at-if1 .if1 .left)) (c .before .link-down .ensures) (c .pack-outcome .ensures)
+    served-known (start .args .device) (at-unpack .unpack .ensures)
+    (OnLink (start .args .link) (start .args .clock) LinkDown)
+    (not-false (at-unpack .unpack .result .known) (at-if1 .if1 .left)) (c .before .link-down .ensures)
+    (c .pack-outcome .ensures)
 
 pub fp-link-down-spec : {M : Type 1} → statement M
 fp-link-down-spec =

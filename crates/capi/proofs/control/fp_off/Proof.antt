@@ -2,7 +2,7 @@
 use mathlib.Core.Path.{ap, _∙_}
 use borrow.Author.Needs.{needs}
 use Rattle.provider.proofs.Theorems.ValidParts.{off-valid}
-use Rattle.capi.specs.Packed.{packed}
+use Rattle.packed.specs.Packed.{packed}
 use Rattle.capi.proofs.control.fp_off.Statement.{statement}
 use Rattle.capi.proofs.control.fp_off.Tie as tie
 

@@ -10,7 +10,8 @@ returns : tie.Need-returns
 returns c =
     let at-unpack = c .before .before .before in
     let start = at-unpack .before in
-    served-unknown (start .args .device) (at-unpack .unpack .ensures) Overflow (not-true (at-unpack .unpack .result .known) (c .before .if1 .taken)) (c .returned .ensures)
+    served-unknown (start .args .device) (at-unpack .unpack .ensures) Overflow
+    (not-true (at-unpack .unpack .result .known) (c .before .if1 .taken)) (c .returned .ensures)
 
 pack-outcome-requires : tie.Need-pack-outcome-requires
 pack-outcome-requires c κs =
@@ -23,7 +24,9 @@ returns-2 c =
     let at-if1 = c .before .before .before in
     let at-unpack = at-if1 .before .before in
     let start = at-unpack .before in
-    served-known (start .args .device) (at-unpack .unpack .ensures) Overflow (not-false (at-unpack .unpack .result .known) (at-if1 .if1 .left)) (c .before .overflow .ensures) (c .pack-outcome .ensures)
+    served-known (start .args .device) (at-unpack .unpack .ensures) Overflow
+    (not-false (at-unpack .unpack .result .known) (at-if1 .if1 .left)) (c .before .overflow .ensures)
+    (c .pack-outcome .ensures)
 
 pub fp-overflow-spec : {M : Type 1} → statement M
 fp-overflow-spec =

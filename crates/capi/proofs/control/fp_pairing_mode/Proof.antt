@@ -12,7 +12,9 @@ returns : tie.Need-returns
 returns c =
     let at-unpack = c .before .before .before in
     let start = at-unpack .before in
-    served-unknown (start .args .device) (at-unpack .unpack .ensures) (OnDevice (start .args .clock) (PairingMode (not (eqb (start .args .on) 0)))) (not-true (at-unpack .unpack .result .known) (c .before .if1 .taken)) (c .returned .ensures)
+    served-unknown (start .args .device) (at-unpack .unpack .ensures)
+    (OnDevice (start .args .clock) (PairingMode (not (eqb (start .args .on) 0))))
+    (not-true (at-unpack .unpack .result .known) (c .before .if1 .taken)) (c .returned .ensures)
 
 pairing-mode-requires : tie.Need-pairing-mode-requires
 pairing-mode-requires c κs =
@@ -24,14 +26,18 @@ pack-outcome-requires : tie.Need-pack-outcome-requires
 pack-outcome-requires c κs =
     let at-unpack = c .before .before .before .before in
     let start = at-unpack .before in
-    next-valid (start .args .device) (at-unpack .unpack .ensures) (OnDevice (start .args .clock) (PairingMode (not (eqb (start .args .on) 0)))) (c .pairing-mode .ensures)
+    next-valid (start .args .device) (at-unpack .unpack .ensures)
+    (OnDevice (start .args .clock) (PairingMode (not (eqb (start .args .on) 0)))) (c .pairing-mode .ensures)
 
 returns-2 : tie.Need-returns-2
 returns-2 c =
     let at-if1 = c .before .before .before in
     let at-unpack = at-if1 .before .before in
     let start = at-unpack .before in
-    served-known (start .args .device) (at-unpack .unpack .ensures) (OnDevice (start .args .clock) (PairingMode (not (eqb (start .args .on) 0)))) (not-false (at-unpack .unpack .result .known) (at-if1 .if1 .left)) (c .before .pairing-mode .ensures) (c .pack-outcome .ensures)
+    served-known (start .args .device) (at-unpack .unpack .ensures)
+    (OnDevice (start .args .clock) (PairingMode (not (eqb (start .args .on) 0))))
+    (not-false (at-unpack .unpack .result .known) (at-if1 .if1 .left)) (c .before .pairing-mode .ensures)
+    (c .pack-outcome .ensures)
 
 pub fp-pairing-mode-spec : {M : Type 1} → statement M
 fp-pairing-mode-spec =

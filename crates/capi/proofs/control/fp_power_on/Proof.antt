@@ -10,20 +10,26 @@ returns : tie.Need-returns
 returns c =
     let at-unpack = c .before .before .before in
     let start = at-unpack .before .before in
-    served-unknown (start .args .device) (at-unpack .unpack .ensures) (PowerOn (start .args .stored .now) (start .args .start)) (not-true (at-unpack .unpack .result .known) (c .before .if1 .taken)) (c .returned .ensures)
+    served-unknown (start .args .device) (at-unpack .unpack .ensures)
+    (PowerOn (start .args .stored .now) (start .args .start))
+    (not-true (at-unpack .unpack .result .known) (c .before .if1 .taken)) (c .returned .ensures)
 
 pack-outcome-requires : tie.Need-pack-outcome-requires
 pack-outcome-requires c κs =
     let at-unpack = c .before .before .before .before in
     let start = at-unpack .before .before in
-    next-valid (start .args .device) (at-unpack .unpack .ensures) (PowerOn (start .args .stored .now) (start .args .start)) (c .power-on .ensures)
+    next-valid (start .args .device) (at-unpack .unpack .ensures)
+    (PowerOn (start .args .stored .now) (start .args .start)) (c .power-on .ensures)
 
 returns-2 : tie.Need-returns-2
 returns-2 c =
     let at-if1 = c .before .before .before in
     let at-unpack = at-if1 .before .before in
     let start = at-unpack .before .before in
-    served-known (start .args .device) (at-unpack .unpack .ensures) (PowerOn (start .args .stored .now) (start .args .start)) (not-false (at-unpack .unpack .result .known) (at-if1 .if1 .left)) (c .before .power-on .ensures) (c .pack-outcome .ensures)
+    served-known (start .args .device) (at-unpack .unpack .ensures)
+    (PowerOn (start .args .stored .now) (start .args .start))
+    (not-false (at-unpack .unpack .result .known) (at-if1 .if1 .left)) (c .before .power-on .ensures)
+    (c .pack-outcome .ensures)
 
 pub fp-power-on-spec : {M : Type 1} → statement M
 fp-power-on-spec =

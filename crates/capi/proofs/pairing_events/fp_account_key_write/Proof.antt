@@ -11,7 +11,9 @@ returns : tie.Need-returns
 returns c =
     let at-unpack = c .before .before .before in
     let start = at-unpack .before .before in
-    served-unknown (start .args .device) (at-unpack .unpack .ensures) (OnLink (start .args .link) (start .args .clock) (OnSession (AccountKeyWrite (start .args .block .now)))) (not-true (at-unpack .unpack .result .known) (c .before .if1 .taken)) (c .returned .ensures)
+    served-unknown (start .args .device) (at-unpack .unpack .ensures)
+    (OnLink (start .args .link) (start .args .clock) (OnSession (AccountKeyWrite (start .args .block .now))))
+    (not-true (at-unpack .unpack .result .known) (c .before .if1 .taken)) (c .returned .ensures)
 
 account-key-write-requires : tie.Need-account-key-write-requires
 account-key-write-requires c κs =
@@ -23,14 +25,19 @@ pack-outcome-requires : tie.Need-pack-outcome-requires
 pack-outcome-requires c κs =
     let at-unpack = c .before .before .before .before in
     let start = at-unpack .before .before in
-    next-valid (start .args .device) (at-unpack .unpack .ensures) (OnLink (start .args .link) (start .args .clock) (OnSession (AccountKeyWrite (start .args .block .now)))) (c .account-key-write .ensures)
+    next-valid (start .args .device) (at-unpack .unpack .ensures)
+    (OnLink (start .args .link) (start .args .clock) (OnSession (AccountKeyWrite (start .args .block .now))))
+    (c .account-key-write .ensures)
 
 returns-2 : tie.Need-returns-2
 returns-2 c =
     let at-if1 = c .before .before .before in
     let at-unpack = at-if1 .before .before in
     let start = at-unpack .before .before in
-    served-known (start .args .device) (at-unpack .unpack .ensures) (OnLink (start .args .link) (start .args .clock) (OnSession (AccountKeyWrite (start .args .block .now)))) (not-false (at-unpack .unpack .result .known) (at-if1 .if1 .left)) (c .before .account-key-write .ensures) (c .pack-outcome .ensures)
+    served-known (start .args .device) (at-unpack .unpack .ensures)
+    (OnLink (start .args .link) (start .args .clock) (OnSession (AccountKeyWrite (start .args .block .now))))
+    (not-false (at-unpack .unpack .result .known) (at-if1 .if1 .left)) (c .before .account-key-write .ensures)
+    (c .pack-outcome .ensures)
 
 pub fp-account-key-write-spec : {M : Type 1} → statement M
 fp-account-key-write-spec =

@@ -11,7 +11,9 @@ returns : tie.Need-returns
 returns c =
     let at-unpack = c .before .before .before in
     let start = at-unpack .before in
-    served-unknown (start .args .device) (at-unpack .unpack .ensures) (OnLink (start .args .link) (start .args .clock) (OnSession (ConfirmationNeeded (start .args .passkey)))) (not-true (at-unpack .unpack .result .known) (c .before .if1 .taken)) (c .returned .ensures)
+    served-unknown (start .args .device) (at-unpack .unpack .ensures)
+    (OnLink (start .args .link) (start .args .clock) (OnSession (ConfirmationNeeded (start .args .passkey))))
+    (not-true (at-unpack .unpack .result .known) (c .before .if1 .taken)) (c .returned .ensures)
 
 confirmation-needed-requires : tie.Need-confirmation-needed-requires
 confirmation-needed-requires c κs =
@@ -23,14 +25,19 @@ pack-outcome-requires : tie.Need-pack-outcome-requires
 pack-outcome-requires c κs =
     let at-unpack = c .before .before .before .before in
     let start = at-unpack .before in
-    next-valid (start .args .device) (at-unpack .unpack .ensures) (OnLink (start .args .link) (start .args .clock) (OnSession (ConfirmationNeeded (start .args .passkey)))) (c .confirmation-needed .ensures)
+    next-valid (start .args .device) (at-unpack .unpack .ensures)
+    (OnLink (start .args .link) (start .args .clock) (OnSession (ConfirmationNeeded (start .args .passkey))))
+    (c .confirmation-needed .ensures)
 
 returns-2 : tie.Need-returns-2
 returns-2 c =
     let at-if1 = c .before .before .before in
     let at-unpack = at-if1 .before .before in
     let start = at-unpack .before in
-    served-known (start .args .device) (at-unpack .unpack .ensures) (OnLink (start .args .link) (start .args .clock) (OnSession (ConfirmationNeeded (start .args .passkey)))) (not-false (at-unpack .unpack .result .known) (at-if1 .if1 .left)) (c .before .confirmation-needed .ensures) (c .pack-outcome .ensures)
+    served-known (start .args .device) (at-unpack .unpack .ensures)
+    (OnLink (start .args .link) (start .args .clock) (OnSession (ConfirmationNeeded (start .args .passkey))))
+    (not-false (at-unpack .unpack .result .known) (at-if1 .if1 .left)) (c .before .confirmation-needed .ensures)
+    (c .pack-outcome .ensures)
 
 pub fp-confirmation-needed-spec : {M : Type 1} → statement M
 fp-confirmation-needed-spec =

@@ -13,7 +13,10 @@ returns : tie.Need-returns
 returns c =
     let at-unpack = c .before .before .before in
     let start = at-unpack .before in
-    served-unknown (start .args .device) (at-unpack .unpack .ensures) (OnLink (start .args .link) (start .args .clock) (OnSession (PairingEnded (not (eqb (start .args .success) 0))))) (not-true (at-unpack .unpack .result .known) (c .before .if1 .taken)) (c .returned .ensures)
+    served-unknown (start .args .device) (at-unpack .unpack .ensures)
+    (OnLink (start .args .link) (start .args .clock)
+    (OnSession (PairingEnded (not (eqb (start .args .success) 0)))))
+    (not-true (at-unpack .unpack .result .known) (c .before .if1 .taken)) (c .returned .ensures)
 
 pairing-ended-requires : tie.Need-pairing-ended-requires
 pairing-ended-requires c κs =
@@ -25,14 +28,20 @@ pack-outcome-requires : tie.Need-pack-outcome-requires
 pack-outcome-requires c κs =
     let at-unpack = c .before .before .before .before in
     let start = at-unpack .before in
-    next-valid (start .args .device) (at-unpack .unpack .ensures) (OnLink (start .args .link) (start .args .clock) (OnSession (PairingEnded (not (eqb (start .args .success) 0))))) (c .pairing-ended .ensures)
+    next-valid (start .args .device) (at-unpack .unpack .ensures)
+    (OnLink (start .args .link) (start .args .clock)
+    (OnSession (PairingEnded (not (eqb (start .args .success) 0))))) (c .pairing-ended .ensures)
 
 returns-2 : tie.Need-returns-2
 returns-2 c =
     let at-if1 = c .before .before .before in
     let at-unpack = at-if1 .before .before in
     let start = at-unpack .before in
-    served-known (start .args .device) (at-unpack .unpack .ensures) (OnLink (start .args .link) (start .args .clock) (OnSession (PairingEnded (not (eqb (start .args .success) 0))))) (not-false (at-unpack .unpack .result .known) (at-if1 .if1 .left)) (c .before .pairing-ended .ensures) (c .pack-outcome .ensures)
+    served-known (start .args .device) (at-unpack .unpack .ensures)
+    (OnLink (start .args .link) (start .args .clock)
+    (OnSession (PairingEnded (not (eqb (start .args .success) 0)))))
+    (not-false (at-unpack .unpack .result .known) (at-if1 .if1 .left)) (c .before .pairing-ended .ensures)
+    (c .pack-outcome .ensures)
 
 pub fp-pairing-ended-spec : {M : Type 1} → statement M
 fp-pairing-ended-spec =

@@ -11,7 +11,9 @@ returns : tie.Need-returns
 returns c =
     let at-unpack = c .before .before .before in
     let start = at-unpack .before in
-    served-unknown (start .args .device) (at-unpack .unpack .ensures) (OnLink (start .args .link) (start .args .clock) (OnSession (PairingStarted (start .args .capability)))) (not-true (at-unpack .unpack .result .known) (c .before .if1 .taken)) (c .returned .ensures)
+    served-unknown (start .args .device) (at-unpack .unpack .ensures)
+    (OnLink (start .args .link) (start .args .clock) (OnSession (PairingStarted (start .args .capability))))
+    (not-true (at-unpack .unpack .result .known) (c .before .if1 .taken)) (c .returned .ensures)
 
 pairing-started-requires : tie.Need-pairing-started-requires
 pairing-started-requires c κs =
@@ -23,14 +25,19 @@ pack-outcome-requires : tie.Need-pack-outcome-requires
 pack-outcome-requires c κs =
     let at-unpack = c .before .before .before .before in
     let start = at-unpack .before in
-    next-valid (start .args .device) (at-unpack .unpack .ensures) (OnLink (start .args .link) (start .args .clock) (OnSession (PairingStarted (start .args .capability)))) (c .pairing-started .ensures)
+    next-valid (start .args .device) (at-unpack .unpack .ensures)
+    (OnLink (start .args .link) (start .args .clock) (OnSession (PairingStarted (start .args .capability))))
+    (c .pairing-started .ensures)
 
 returns-2 : tie.Need-returns-2
 returns-2 c =
     let at-if1 = c .before .before .before in
     let at-unpack = at-if1 .before .before in
     let start = at-unpack .before in
-    served-known (start .args .device) (at-unpack .unpack .ensures) (OnLink (start .args .link) (start .args .clock) (OnSession (PairingStarted (start .args .capability)))) (not-false (at-unpack .unpack .result .known) (at-if1 .if1 .left)) (c .before .pairing-started .ensures) (c .pack-outcome .ensures)
+    served-known (start .args .device) (at-unpack .unpack .ensures)
+    (OnLink (start .args .link) (start .args .clock) (OnSession (PairingStarted (start .args .capability))))
+    (not-false (at-unpack .unpack .result .known) (at-if1 .if1 .left)) (c .before .pairing-started .ensures)
+    (c .pack-outcome .ensures)
 
 pub fp-pairing-started-spec : {M : Type 1} → statement M
 fp-pairing-started-spec =

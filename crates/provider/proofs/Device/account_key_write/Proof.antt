@@ -13,20 +13,28 @@ returns : tie.Need-returns
 returns c =
     let at-on-known-link = c .before .before .before in
     let start = at-on-known-link .before .before in
-    ap (λ (x : Effect). x .gives) (event-refused (start .args .self) (start .args .link .0) (start .args .clock .0) (OnSession (AccountKeyWrite (start .args .block .now))) refl (at-on-known-link .on-known-link .ensures) (not-true (at-on-known-link .on-known-link .result .passed) (c .before .if1 .taken)))
+    ap (λ (x : Effect). x .gives)
+    (event-refused (start .args .self) (start .args .link .0) (start .args .clock .0)
+    (OnSession (AccountKeyWrite (start .args .block .now))) refl (at-on-known-link .on-known-link .ensures)
+    (not-true (at-on-known-link .on-known-link .result .passed) (c .before .if1 .taken)))
 
 at-requires : tie.Need-at-requires
 at-requires c κs =
     let at-on-known-link = c .before .before .before in
     let start = at-on-known-link .before .before in
-    (event-passed (start .args .self) (start .args .link .0) (start .args .clock .0) (OnSession (AccountKeyWrite (start .args .block .now))) refl (at-on-known-link .on-known-link .ensures) (not-false (at-on-known-link .on-known-link .result .passed) (c .before .if1 .left))) .known
+    (event-passed (start .args .self) (start .args .link .0) (start .args .clock .0)
+    (OnSession (AccountKeyWrite (start .args .block .now))) refl (at-on-known-link .on-known-link .ensures)
+    (not-false (at-on-known-link .on-known-link .result .passed) (c .before .if1 .left))) .known
 
-acted-requires : tie.Need-acted-requires
-acted-requires c κs =
+applied-requires : tie.Need-applied-requires
+applied-requires c κs =
     let at-if1 = c .before .before .before in
     let at-on-known-link = at-if1 .before .before in
     let start = at-on-known-link .before .before in
-    let p = event-passed (start .args .self) (start .args .link .0) (start .args .clock .0) (OnSession (AccountKeyWrite (start .args .block .now))) refl (at-on-known-link .on-known-link .ensures) (not-false (at-on-known-link .on-known-link .result .passed) (at-if1 .if1 .left)) in (p .known, rw (p .next) (clock-kept (start .args .self) (start .args .clock .0) (start .pre)))
+    let p = event-passed (start .args .self) (start .args .link .0) (start .args .clock .0)
+    (OnSession (AccountKeyWrite (start .args .block .now))) refl (at-on-known-link .on-known-link .ensures)
+    (not-false (at-on-known-link .on-known-link .result .passed) (at-if1 .if1 .left)) in
+    (p .known, rw (p .next) (clock-kept (start .args .self) (start .args .clock .0) (start .pre)))
 
 returns-2 : tie.Need-returns-2
 returns-2 c =
@@ -34,7 +42,12 @@ returns-2 c =
     let at-if1 = at-at .before .before in
     let at-on-known-link = at-if1 .before .before in
     let start = at-on-known-link .before .before in
-    c .acted .ensures ∙ session-gives (start .args .self) (start .args .link .0) (start .args .clock .0) (AccountKeyWrite (start .args .block .now)) (event-passed (start .args .self) (start .args .link .0) (start .args .clock .0) (OnSession (AccountKeyWrite (start .args .block .now))) refl (at-on-known-link .on-known-link .ensures) (not-false (at-on-known-link .on-known-link .result .passed) (at-if1 .if1 .left))) (at-at .at .ensures) (c .before .account-key-write .ensures)
+    c .applied .ensures ∙ session-gives (start .args .self) (start .args .link .0) (start .args .clock .0)
+    (AccountKeyWrite (start .args .block .now))
+    (event-passed (start .args .self) (start .args .link .0) (start .args .clock .0)
+    (OnSession (AccountKeyWrite (start .args .block .now))) refl (at-on-known-link .on-known-link .ensures)
+    (not-false (at-on-known-link .on-known-link .result .passed) (at-if1 .if1 .left))) (at-at .at .ensures)
+    (c .before .account-key-write .ensures)
 
 pub account-key-write-spec : {M : Type 1} → statement M
 account-key-write-spec =
@@ -44,5 +57,5 @@ account-key-write-spec =
     returns
     at-requires
     (λ c κs. search needs)
-    acted-requires
+    applied-requires
     returns-2)

@@ -15,14 +15,19 @@ returns : tie.Need-returns
 returns c =
     let at-in-time = c .before .before .before in
     let start = at-in-time .before in
-    sym (ap (λ (x : Effect). x .gives) (time-refused (start .args .self) (start .args .clock .0) (at-in-time .in-time .ensures) (not-true (at-in-time .in-time .result .passed) (c .before .if1 .taken)) [] _))
+    sym (ap (λ (x : Effect). x .gives)
+    (time-refused (start .args .self) (start .args .clock .0) (at-in-time .in-time .ensures)
+    (not-true (at-in-time .in-time .result .passed) (c .before .if1 .taken)) [] _))
 
 returns-2 : tie.Need-returns-2
 returns-2 c =
     let at-if1 = c .before .before in
     let at-in-time = at-if1 .before .before in
     let start = at-in-time .before in
-    let p = (time-passed (start .args .self) (start .args .clock .0) (at-in-time .in-time .ensures) (not-false (at-in-time .in-time .result .passed) (at-if1 .if1 .left))) in c .answers .ensures ∙ ap (λ (d : Device). given (control.addressRotated (start .args .ble) (start .args .salt) d) Taken) (p .0) ∙ sym (ap (λ (x : Effect). x .gives) (p .1 [] _))
+    let p = (time-passed (start .args .self) (start .args .clock .0) (at-in-time .in-time .ensures)
+    (not-false (at-in-time .in-time .result .passed) (at-if1 .if1 .left))) in c .answers .ensures ∙ ap
+    (λ (d : Device). given (control.addressRotated (start .args .ble) (start .args .salt) d) Taken) (p .0) ∙ sym
+    (ap (λ (x : Effect). x .gives) (p .1 [] _))
 
 pub address-rotated-spec : {M : Type 1} → statement M
 address-rotated-spec = tie.close (tie.spec (λ c κs. search needs) returns (λ c κs. search needs) returns-2)

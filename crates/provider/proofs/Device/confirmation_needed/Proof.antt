@@ -14,22 +14,33 @@ returns c =
     let at-on-known-link = c .before .before .before in
     let at-passkey-range = at-on-known-link .before in
     let start = at-passkey-range .before in
-    ap (λ (x : Effect). x .gives) (event-refused (start .args .self) (start .args .link .0) (start .args .clock .0) (OnSession (ConfirmationNeeded (start .args .passkey))) (at-passkey-range .passkey-range .ensures) (at-on-known-link .on-known-link .ensures) (not-true (at-on-known-link .on-known-link .result .passed) (c .before .if1 .taken)))
+    ap (λ (x : Effect). x .gives)
+    (event-refused (start .args .self) (start .args .link .0) (start .args .clock .0)
+    (OnSession (ConfirmationNeeded (start .args .passkey))) (at-passkey-range .passkey-range .ensures)
+    (at-on-known-link .on-known-link .ensures)
+    (not-true (at-on-known-link .on-known-link .result .passed) (c .before .if1 .taken)))
 
 at-requires : tie.Need-at-requires
 at-requires c κs =
     let at-on-known-link = c .before .before .before in
     let at-passkey-range = at-on-known-link .before in
     let start = at-passkey-range .before in
-    (event-passed (start .args .self) (start .args .link .0) (start .args .clock .0) (OnSession (ConfirmationNeeded (start .args .passkey))) (at-passkey-range .passkey-range .ensures) (at-on-known-link .on-known-link .ensures) (not-false (at-on-known-link .on-known-link .result .passed) (c .before .if1 .left))) .known
+    (event-passed (start .args .self) (start .args .link .0) (start .args .clock .0)
+    (OnSession (ConfirmationNeeded (start .args .passkey))) (at-passkey-range .passkey-range .ensures)
+    (at-on-known-link .on-known-link .ensures)
+    (not-false (at-on-known-link .on-known-link .result .passed) (c .before .if1 .left))) .known
 
-acted-requires : tie.Need-acted-requires
-acted-requires c κs =
+applied-requires : tie.Need-applied-requires
+applied-requires c κs =
     let at-if1 = c .before .before .before in
     let at-on-known-link = at-if1 .before .before in
     let at-passkey-range = at-on-known-link .before in
     let start = at-passkey-range .before in
-    let p = event-passed (start .args .self) (start .args .link .0) (start .args .clock .0) (OnSession (ConfirmationNeeded (start .args .passkey))) (at-passkey-range .passkey-range .ensures) (at-on-known-link .on-known-link .ensures) (not-false (at-on-known-link .on-known-link .result .passed) (at-if1 .if1 .left)) in (p .known, rw (p .next) (clock-kept (start .args .self) (start .args .clock .0) (start .pre)))
+    let p = event-passed (start .args .self) (start .args .link .0) (start .args .clock .0)
+    (OnSession (ConfirmationNeeded (start .args .passkey))) (at-passkey-range .passkey-range .ensures)
+    (at-on-known-link .on-known-link .ensures)
+    (not-false (at-on-known-link .on-known-link .result .passed) (at-if1 .if1 .left)) in
+    (p .known, rw (p .next) (clock-kept (start .args .self) (start .args .clock .0) (start .pre)))
 
 returns-2 : tie.Need-returns-2
 returns-2 c =
@@ -38,7 +49,13 @@ returns-2 c =
     let at-on-known-link = at-if1 .before .before in
     let at-passkey-range = at-on-known-link .before in
     let start = at-passkey-range .before in
-    c .acted .ensures ∙ session-gives (start .args .self) (start .args .link .0) (start .args .clock .0) (ConfirmationNeeded (start .args .passkey)) (event-passed (start .args .self) (start .args .link .0) (start .args .clock .0) (OnSession (ConfirmationNeeded (start .args .passkey))) (at-passkey-range .passkey-range .ensures) (at-on-known-link .on-known-link .ensures) (not-false (at-on-known-link .on-known-link .result .passed) (at-if1 .if1 .left))) (at-at .at .ensures) (c .before .confirmation-needed .ensures)
+    c .applied .ensures ∙ session-gives (start .args .self) (start .args .link .0) (start .args .clock .0)
+    (ConfirmationNeeded (start .args .passkey))
+    (event-passed (start .args .self) (start .args .link .0) (start .args .clock .0)
+    (OnSession (ConfirmationNeeded (start .args .passkey))) (at-passkey-range .passkey-range .ensures)
+    (at-on-known-link .on-known-link .ensures)
+    (not-false (at-on-known-link .on-known-link .result .passed) (at-if1 .if1 .left))) (at-at .at .ensures)
+    (c .before .confirmation-needed .ensures)
 
 pub confirmation-needed-spec : {M : Type 1} → statement M
 confirmation-needed-spec =
@@ -49,5 +66,5 @@ confirmation-needed-spec =
     returns
     at-requires
     (λ c κs. search needs)
-    acted-requires
+    applied-requires
     returns-2)

@@ -16,7 +16,9 @@ returns : tie.Need-returns
 returns c =
     let at-in-time = c .before .before .before in
     let start = at-in-time .before in
-    sym (ap (λ (x : Effect). x .gives) (time-refused (start .args .self) (start .args .clock .0) (at-in-time .in-time .ensures) (not-true (at-in-time .in-time .result .passed) (c .before .if1 .taken)) [] _))
+    sym (ap (λ (x : Effect). x .gives)
+    (time-refused (start .args .self) (start .args .clock .0) (at-in-time .in-time .ensures)
+    (not-true (at-in-time .in-time .result .passed) (c .before .if1 .taken)) [] _))
 
 returns-2 : tie.Need-returns-2
 returns-2 c =
@@ -25,7 +27,11 @@ returns-2 c =
     let at-if1 = at-all-idle .before .before in
     let at-in-time = at-if1 .before .before in
     let start = at-in-time .before in
-    let p = (time-passed (start .args .self) (start .args .clock .0) (at-in-time .in-time .ensures) (not-false (at-in-time .in-time .result .passed) (at-if1 .if1 .left))) in c .answers .ensures ∙ emptied (at-in-time .in-time .result .outcome .next) (c .before .none .ensures) (at-all-idle .all-idle .ensures) (at-new .new .ensures) ∙ ap (λ (d : Device). given (control.factoryReset d) Taken) (p .0) ∙ sym (ap (λ (x : Effect). x .gives) (p .1 [] _))
+    let p = (time-passed (start .args .self) (start .args .clock .0) (at-in-time .in-time .ensures)
+    (not-false (at-in-time .in-time .result .passed) (at-if1 .if1 .left))) in c .answers .ensures ∙ emptied
+    (at-in-time .in-time .result .outcome .next) (c .before .none .ensures) (at-all-idle .all-idle .ensures)
+    (at-new .new .ensures) ∙ ap (λ (d : Device). given (control.factoryReset d) Taken) (p .0) ∙ sym
+    (ap (λ (x : Effect). x .gives) (p .1 [] _))
 
 pub factory-reset-spec : {M : Type 1} → statement M
 factory-reset-spec =

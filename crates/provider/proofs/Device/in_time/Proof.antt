@@ -13,13 +13,17 @@ returns : tie.Need-returns
 returns c =
     let at-if1 = c .before .before in
     let start = at-if1 .before .before .before .before in
-    c .checked .ensures ∙ ap (λ (d : Device). checkedOf (given d ClockWentBack)) (c .before .drop-all .ensures) ∙ sym (ap (λ (x : Effect). checkedOf (x .gives)) (clock-back (start .args .self) (start .args .clock .0) [] takes (at-if1 .if1 .taken)))
+    c .checked .ensures ∙ ap (λ (d : Device). checkedOf (given d ClockWentBack)) (c .before .drop-all .ensures) ∙ sym
+    (ap (λ (x : Effect). checkedOf (x .gives))
+    (clock-back (start .args .self) (start .args .clock .0) [] takes (at-if1 .if1 .taken)))
 
 returns-2 : tie.Need-returns-2
 returns-2 c =
     let at-if1 = c .before .before in
     let start = at-if1 .before .before .before .before in
-    c .checked2 .ensures ∙ ap (λ (d : Device). checkedOf (given d Taken)) (c .before .clock-step .ensures) ∙ sym (ap (λ (x : Effect). checkedOf (x .gives)) (clock-on (start .args .self) (start .args .clock .0) [] takes (at-if1 .if1 .left)))
+    c .checked2 .ensures ∙ ap (λ (d : Device). checkedOf (given d Taken)) (c .before .clock-step .ensures) ∙ sym
+    (ap (λ (x : Effect). checkedOf (x .gives))
+    (clock-on (start .args .self) (start .args .clock .0) [] takes (at-if1 .if1 .left)))
 
 pub in-time-spec : {M : Type 1} → statement M
 in-time-spec =

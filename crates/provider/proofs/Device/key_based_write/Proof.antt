@@ -14,14 +14,21 @@ returns c =
     let at-on-known-link = c .before .before .before in
     let at-request-size = at-on-known-link .before in
     let start = at-request-size .before .before .before in
-    let r = event-refused (start .args .self) (start .args .link .0) (start .args .clock .0) (KeyBasedWrite (start .args .request .now) (start .args .element) (start .args .salt) (start .args .out .now)) (at-request-size .request-size .ensures) (at-on-known-link .on-known-link .ensures) (not-true (at-on-known-link .on-known-link .result .passed) (c .before .if1 .taken)) in (ap (λ (x : Effect). x .gives) r, ap (λ (x : Effect). x .leaves) r)
+    let r = event-refused (start .args .self) (start .args .link .0) (start .args .clock .0)
+    (KeyBasedWrite (start .args .request .now) (start .args .element) (start .args .salt) (start .args .out .now))
+    (at-request-size .request-size .ensures) (at-on-known-link .on-known-link .ensures)
+    (not-true (at-on-known-link .on-known-link .result .passed) (c .before .if1 .taken)) in
+    (ap (λ (x : Effect). x .gives) r, ap (λ (x : Effect). x .leaves) r)
 
 at-requires : tie.Need-at-requires
 at-requires c κs =
     let at-on-known-link = c .before .before .before in
     let at-request-size = at-on-known-link .before in
     let start = at-request-size .before .before .before in
-    (event-passed (start .args .self) (start .args .link .0) (start .args .clock .0) (KeyBasedWrite (start .args .request .now) (start .args .element) (start .args .salt) (start .args .out .now)) (at-request-size .request-size .ensures) (at-on-known-link .on-known-link .ensures) (not-false (at-on-known-link .on-known-link .result .passed) (c .before .if1 .left))) .known
+    (event-passed (start .args .self) (start .args .link .0) (start .args .clock .0)
+    (KeyBasedWrite (start .args .request .now) (start .args .element) (start .args .salt) (start .args .out .now))
+    (at-request-size .request-size .ensures) (at-on-known-link .on-known-link .ensures)
+    (not-false (at-on-known-link .on-known-link .result .passed) (c .before .if1 .left))) .known
 
 decide-requires : tie.Need-decide-requires
 decide-requires c κs =
@@ -29,7 +36,15 @@ decide-requires c κs =
     let at-on-known-link = at-if1 .before .before in
     let at-request-size = at-on-known-link .before in
     let start = at-request-size .before .before .before in
-    let p = event-passed (start .args .self) (start .args .link .0) (start .args .clock .0) (KeyBasedWrite (start .args .request .now) (start .args .element) (start .args .salt) (start .args .out .now)) (at-request-size .request-size .ensures) (at-on-known-link .on-known-link .ensures) (not-false (at-on-known-link .on-known-link .result .passed) (at-if1 .if1 .left)) in (context-valid (start .args .self) (start .args .link .0) (start .args .clock .0) (start .args .request .now) (start .args .element) (start .args .salt) (start .args .out .now) p (c .before .context .ensures) (start .pre), request-sized (start .args .request .now) (length (start .args .out .now)) (p .taken))
+    let p = event-passed (start .args .self) (start .args .link .0) (start .args .clock .0)
+    (KeyBasedWrite (start .args .request .now) (start .args .element) (start .args .salt) (start .args .out .now))
+    (at-request-size .request-size .ensures) (at-on-known-link .on-known-link .ensures)
+    (not-false (at-on-known-link .on-known-link .result .passed) (at-if1 .if1 .left)) in (
+      context-valid (start .args .self) (start .args .link .0) (start .args .clock .0) (start .args .request .now)
+          (start .args .element) (start .args .salt) (start .args .out .now) p (c .before .context .ensures)
+          (start .pre),
+      request-sized (start .args .request .now) (length (start .args .out .now)) (p .taken),
+    )
 
 requested-requires : tie.Need-requested-requires
 requested-requires c κs =
@@ -37,7 +52,10 @@ requested-requires c κs =
     let at-on-known-link = at-if1 .before .before in
     let at-request-size = at-on-known-link .before in
     let start = at-request-size .before .before .before in
-    (event-passed (start .args .self) (start .args .link .0) (start .args .clock .0) (KeyBasedWrite (start .args .request .now) (start .args .element) (start .args .salt) (start .args .out .now)) (at-request-size .request-size .ensures) (at-on-known-link .on-known-link .ensures) (not-false (at-on-known-link .on-known-link .result .passed) (at-if1 .if1 .left))) .known
+    (event-passed (start .args .self) (start .args .link .0) (start .args .clock .0)
+    (KeyBasedWrite (start .args .request .now) (start .args .element) (start .args .salt) (start .args .out .now))
+    (at-request-size .request-size .ensures) (at-on-known-link .on-known-link .ensures)
+    (not-false (at-on-known-link .on-known-link .result .passed) (at-if1 .if1 .left))) .known
 
 returns-2 : tie.Need-returns-2
 returns-2 c =
@@ -48,7 +66,18 @@ returns-2 c =
     let at-on-known-link = at-if1 .before .before in
     let at-request-size = at-on-known-link .before in
     let start = at-request-size .before .before .before in
-    let p = event-passed (start .args .self) (start .args .link .0) (start .args .clock .0) (KeyBasedWrite (start .args .request .now) (start .args .element) (start .args .salt) (start .args .out .now)) (at-request-size .request-size .ensures) (at-on-known-link .on-known-link .ensures) (not-false (at-on-known-link .on-known-link .result .passed) (at-if1 .if1 .left)) in (c .requested .ensures ∙ request-gives (start .args .self) (start .args .link .0) (start .args .clock .0) (start .args .request .now) (start .args .element) (start .args .salt) (start .args .out .now) p (at-context .context .ensures) (at-at .at .ensures) (at-decide .decide .ensures .0), request-leaves (start .args .self) (start .args .link .0) (start .args .clock .0) (start .args .request .now) (start .args .element) (start .args .salt) (start .args .out .now) p (at-context .context .ensures) (at-at .at .ensures) (at-decide .decide .ensures .1))
+    let p = event-passed (start .args .self) (start .args .link .0) (start .args .clock .0)
+    (KeyBasedWrite (start .args .request .now) (start .args .element) (start .args .salt) (start .args .out .now))
+    (at-request-size .request-size .ensures) (at-on-known-link .on-known-link .ensures)
+    (not-false (at-on-known-link .on-known-link .result .passed) (at-if1 .if1 .left)) in (
+      c .requested .ensures ∙ request-gives (start .args .self) (start .args .link .0) (start .args .clock .0)
+          (start .args .request .now) (start .args .element) (start .args .salt) (start .args .out .now) p
+          (at-context .context .ensures) (at-at .at .ensures) (at-decide .decide .ensures .0),
+      request-leaves
+          (start .args .self) (start .args .link .0) (start .args .clock .0) (start .args .request .now)
+          (start .args .element) (start .args .salt) (start .args .out .now) p (at-context .context .ensures)
+          (at-at .at .ensures) (at-decide .decide .ensures .1),
+    )
 
 pub key-based-write-spec : {M : Type 1} → statement M
 key-based-write-spec =

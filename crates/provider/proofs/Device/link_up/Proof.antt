@@ -14,14 +14,19 @@ returns : tie.Need-returns
 returns c =
     let at-on-known-link = c .before .before .before in
     let start = at-on-known-link .before in
-    ap (λ (x : Effect). x .gives) (event-refused (start .args .self) (start .args .link .0) (start .args .clock .0) LinkUp refl (at-on-known-link .on-known-link .ensures) (not-true (at-on-known-link .on-known-link .result .passed) (c .before .if1 .taken)))
+    ap (λ (x : Effect). x .gives)
+    (event-refused (start .args .self) (start .args .link .0) (start .args .clock .0) LinkUp refl
+    (at-on-known-link .on-known-link .ensures)
+    (not-true (at-on-known-link .on-known-link .result .passed) (c .before .if1 .taken)))
 
 with-requires : tie.Need-with-requires
 with-requires c κs =
     let at-if1 = c .before .before .before in
     let at-on-known-link = at-if1 .before .before in
     let start = at-on-known-link .before in
-    (event-passed (start .args .self) (start .args .link .0) (start .args .clock .0) LinkUp refl (at-on-known-link .on-known-link .ensures) (not-false (at-on-known-link .on-known-link .result .passed) (at-if1 .if1 .left))) .known
+    (event-passed (start .args .self) (start .args .link .0) (start .args .clock .0) LinkUp refl
+    (at-on-known-link .on-known-link .ensures)
+    (not-false (at-on-known-link .on-known-link .result .passed) (at-if1 .if1 .left))) .known
 
 returns-2 : tie.Need-returns-2
 returns-2 c =
@@ -29,7 +34,13 @@ returns-2 c =
     let at-if1 = at-idle .before .before .before in
     let at-on-known-link = at-if1 .before .before in
     let start = at-on-known-link .before in
-    c .answers .ensures ∙ link-changed (start .args .self) (start .args .link .0) (start .args .clock .0) (event-passed (start .args .self) (start .args .link .0) (start .args .clock .0) LinkUp refl (at-on-known-link .on-known-link .ensures) (not-false (at-on-known-link .on-known-link .result .passed) (at-if1 .if1 .left))) (c .before .with .ensures ∙ ap (withSession (at-on-known-link .on-known-link .result .outcome .next .sessions) (start .args .link .0)) (at-idle .idle .ensures))
+    c .answers .ensures ∙ link-changed (start .args .self) (start .args .link .0) (start .args .clock .0)
+    (event-passed (start .args .self) (start .args .link .0) (start .args .clock .0) LinkUp refl
+    (at-on-known-link .on-known-link .ensures)
+    (not-false (at-on-known-link .on-known-link .result .passed) (at-if1 .if1 .left)))
+    (c .before .with .ensures ∙ ap
+    (withSession (at-on-known-link .on-known-link .result .outcome .next .sessions) (start .args .link .0))
+    (at-idle .idle .ensures))
 
 pub link-up-spec : {M : Type 1} → statement M
 link-up-spec =

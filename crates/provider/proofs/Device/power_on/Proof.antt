@@ -15,13 +15,21 @@ returns c =
     let at-enum-told = c .before .before .before in
     let at-read = at-enum-told .before .before in
     let start = at-read .before .before in
-    c .answers .ensures ∙ ap (λ (d : Device). given d Taken) (c .before .started .ensures ∙ ap (λ (r : Reading). control.started (r .keys) (start .args .start)) (at-read .read .ensures)) ∙ sym (ap (λ (x : Effect). x .gives) (powers-on (start .args .self) (start .args .stored .now) (start .args .start) (sym (ap (λ (r : Reading). r .form) (at-read .read .ensures)) ∙ at-enum-told .enum-told .given .1)))
+    c .answers .ensures ∙ ap (λ (d : Device). given d Taken)
+    (c .before .started .ensures ∙ ap (λ (r : Reading). control.started (r .keys) (start .args .start))
+    (at-read .read .ensures)) ∙ sym
+    (ap (λ (x : Effect). x .gives)
+    (powers-on (start .args .self) (start .args .stored .now) (start .args .start)
+    (sym (ap (λ (r : Reading). r .form) (at-read .read .ensures)) ∙ at-enum-told .enum-told .given .1)))
 
 returns-2 : tie.Need-returns-2
 returns-2 c =
     let at-read = c .before .before .before in
     let start = at-read .before .before in
-    c .answers2 .ensures ∙ sym (ap (λ (x : Effect). x .gives) (list-malformed (start .args .self) (start .args .stored .now) (start .args .start) (sym (ap (λ (r : Reading). r .form) (at-read .read .ensures)) ∙ c .before .enum-told2 .given .1)))
+    c .answers2 .ensures ∙ sym
+    (ap (λ (x : Effect). x .gives)
+    (list-malformed (start .args .self) (start .args .stored .now) (start .args .start)
+    (sym (ap (λ (r : Reading). r .form) (at-read .read .ensures)) ∙ c .before .enum-told2 .given .1)))
 
 pub power-on-spec : {M : Type 1} → statement M
 power-on-spec =

@@ -6,7 +6,9 @@ use Rattle.request_guard.proofs.Failures.in_use.Tie as tie
 use Rattle.request_guard.proofs.Failures.in_use.Statement.{statement}
 
 returns : tie.Need-returns
-returns c = c .none .ensures ∙ rw (eq-eqb (c .before .before .before .args .self .count) 0 (c .before .if1 .taken))
+returns c =
+    let start = c .before .before .before in
+    c .none .ensures ∙ rw (eq-eqb (start .args .self .count) 0 (c .before .if1 .taken))
 
 returns-2 : tie.Need-returns-2
 returns-2 c = rw (ne-eqb (c .before .before .args .self .count) 0 (c .if1 .left))

@@ -6,7 +6,9 @@ use Rattle.request_guard.proofs.Laws.{too-many-salts, too-many-failures
 use Rattle.request_guard.proofs.Guard.is_bounded.Statement.{statement}
 
 returns : tie.Need-returns
-returns c = too-many-salts (c .before .before .before .args .self) (c .if1 .taken)
+returns c =
+    let start = c .before .before .before in
+    too-many-salts (start .args .self) (c .if1 .taken)
 
 returns-2 : tie.Need-returns-2
 returns-2 c =

@@ -23,7 +23,9 @@ loop-holds : tie.Need-loop-holds Inv-loop μ-loop
 loop-holds c = (search needs, refl)
 
 array-write-bytes : tie.Need-array-write-bytes Inv-loop μ-loop
-array-write-bytes c = omega (arith, c .before .before .before .pre)
+array-write-bytes c =
+    let start = c .before .before .before in
+    omega (arith, start .pre)
 
 loop-again : tie.Need-loop-again Inv-loop μ-loop
 loop-again c =

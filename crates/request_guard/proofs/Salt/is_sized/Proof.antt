@@ -7,7 +7,9 @@ returns : tie.Need-returns
 returns c = rw (eq-eqb (c .before .before .args .self .length) 2 (c .if1 .taken))
 
 returns-2 : tie.Need-returns-2
-returns-2 c = rw (ne-eqb (c .before .before .before .args .self .length) 2 (c .before .if1 .left))
+returns-2 c =
+    let start = c .before .before .before in
+    rw (ne-eqb (start .args .self .length) 2 (c .before .if1 .left))
 
 pub is-sized-spec : {M : Type 1} → statement M
 is-sized-spec = tie.close (tie.spec returns returns-2)

@@ -23,7 +23,8 @@ returns c =
 returns-2 : tie.Need-returns-2
 returns-2 c =
     let start = c .before .before in
-    c .push2 .ensures ∙ ap salts (remembering-room (start .args .self) (start .args .salt) (start .pre) (c .before .if1 .left))
+    c .push2 .ensures ∙ ap salts
+    (remembering-room (start .args .self) (start .args .salt) (start .pre) (c .before .if1 .left))
 
 pub remember-spec : {M : Type 1} → statement M
 remember-spec =

@@ -24,7 +24,8 @@ returns-3 c =
     let asked = timed .before .before in
     let given = asked .before .before .before .args in
     c .idle .ensures ∙ atClock-lapsed (given .now .0) (given .self)
-    (sym (asked .before .timed .ensures) ∙ not-false _ (asked .if1 .left)) (rw (timed .before .ago .ensures) at (timed .if2 .left))
+    (sym (asked .before .timed .ensures) ∙ not-false _ (asked .if1 .left))
+    (rw (timed .before .ago .ensures) at (timed .if2 .left))
 
 pub at-clock-spec : {M : Type 1} → statement M
 at-clock-spec =

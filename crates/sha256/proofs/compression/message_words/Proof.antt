@@ -24,7 +24,8 @@ loop-again : tie.Need-loop-again Inv-loop μ-loop
 loop-again c =
     let turn = c .before .before in (
       search needs,
-      words-more (turn .before .before .args .block .now) (turn .loop .i) (omega arith) (turn .loop .inv .1) (c .word-at .ensures),
+      words-more (turn .before .before .args .block .now) (turn .loop .i) (omega arith) (turn .loop .inv .1)
+          (c .word-at .ensures),
     )
 
 returns : tie.Need-returns Inv-loop μ-loop

@@ -14,7 +14,9 @@ cast-result-2 : tie.Need-cast-result-2
 cast-result-2 c = omega (arith, c .shared-slice-known2 .given (c .before .before .args .i * 4 + 1))
 
 cast-result-3 : tie.Need-cast-result-3
-cast-result-3 c = omega (arith, c .shared-slice-known3 .given (c .before .before .before .args .i * 4 + 2))
+cast-result-3 c =
+    let start = c .before .before .before in
+    omega (arith, c .shared-slice-known3 .given (start .args .i * 4 + 2))
 
 cast-result-4 : tie.Need-cast-result-4
 cast-result-4 c =

@@ -1,0 +1,10 @@
+-- No address is handed out.
+use borrow.Author.Needs.{needs}
+use Rattle.capi.proofs.returned.Statement.{statement}
+use Rattle.capi.proofs.returned.Tie as tie
+
+returns : tie.Need-returns
+returns c = rw (c .no-bond .ensures)
+
+pub returned-spec : {M : Type 1} → statement M
+returned-spec = tie.close (tie.spec (λ c κs. search needs) returns)

@@ -1,0 +1,12 @@
+-- The fields that are copied are the definition's as they stand; the other three are calls.
+use borrow.Author.Needs.{needs}
+use Rattle.packed.specs.Packed.{packed}
+use Rattle.packed.proofs.pack.pack.Statement.{statement}
+use Rattle.packed.proofs.pack.pack.Tie as tie
+
+returns : tie.Need-returns
+unfolding packed
+returns c = rw (c .flag .ensures, c .before .pack-keys .ensures, c .before .before .pack-links .ensures)
+
+pub pack-spec : {M : Type 1} → statement M
+pack-spec = tie.close (tie.spec (λ c κs. search needs) (λ c κs. search needs) (λ c κs. search needs) returns)

@@ -1,0 +1,10 @@
+-- Field by field.
+use borrow.Author.Needs.{needs}
+use Rattle.packed.proofs.pack.pack_reply.Statement.{statement}
+use Rattle.packed.proofs.pack.pack_reply.Tie as tie
+
+returns : tie.Need-returns
+returns c = rw (c .before .number .ensures, c .confirm-number .ensures)
+
+pub pack-reply-spec : {M : Type 1} → statement M
+pack-reply-spec = tie.close (tie.spec (λ c κs. search needs) (λ c κs. search needs) returns)

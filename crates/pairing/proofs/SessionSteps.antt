@@ -1,0 +1,190 @@
+-- What every pairing, passkey and account key event makes of a session.
+-- Assumes nothing.
+use mathlib.Core.Bool.{Bool, true, false, not}
+use mathlib.Core.List.{List}
+use mathlib.Core.Path.{_≡_, refl, sym, ap, _∙_}
+use Prim.Native.Nat.{ℕ}
+use native.Mathlib.Omega.{arith}
+use lib.Dec.{T, eqb, ltb}
+use lib.ListN.{length, getD}
+use borrow.Author.Tests.{eqb-true, ltb-true, not-false}
+use Rattle.laws.proofs.Choice.{true-is, if-holds, or-false-right}
+use Rattle.laws.specs.Choice.{if_then_else_}
+use Rattle.account_keys.specs.Keys.{Sized}
+use Rattle.account_keys.specs.declared.AccountKey.{AccountKey}
+use Rattle.aes128.proofs.Sizes.{length-invCipher}
+use Rattle.aes128.specs.Cipher.{invCipher}
+use Rattle.basics.specs.Answers.{answerNumber, isTaken}
+use Rattle.basics.specs.declared.Answer.{Answer}
+use Rattle.basics.specs.declared.Answer.the-variants.{Taken, LinkIdle, WrongStage, CapabilityRefused, BadBlock}
+use Rattle.pairing.proofs.Laws as laws
+use Rattle.pairing.specs.Pairing.{PairingEvent, PairingStarted, ConfirmationNeeded, PasskeyWrite, PairingEnded, AccountKeyWrite, answered, dropped, inStage, refusedCapability, begun, confirming, badBlock, passkeyIn, comparedPasskey, openedPasskey, openedAccountKey, pairingFailed, pairingStarted, confirmationNeeded, passkeyWrite, pairingEnded, accountKeyWrite, sessionStep, lent, leaves}
+use Rattle.pairing.specs.declared.SessionOutcome.{SessionOutcome}
+use Rattle.sessions.specs.Sessions.{Canonical, idle, isStage, stageNumber, becomes}
+use Rattle.sessions.specs.declared.Session.{Session}
+use Rattle.sessions.specs.declared.Stage.{Stage}
+use Rattle.sessions.specs.declared.Stage.the-variants.{Idle, Asked, Pairing, Confirming, Proved, Paired}
+
+-- the answers that these events give: 0 and 9 to 12
+pub data OnSessions : Answer → Type 0 where
+  taken : OnSessions Taken
+  link-idle : OnSessions LinkIdle
+  wrong-stage : OnSessions WrongStage
+  capability-refused : OnSessions CapabilityRefused
+  bad-block : OnSessions BadBlock
+
+-- the session after a refusal: 9 leaves it, and every other one drops it
+abbrev pub refusedSession : Answer → Session → Session
+refusedSession a s = if eqb (answerNumber a) 9 then s else idle
+
+-- sixteen bytes that begin with 0x04
+abbrev pub Storable : AccountKey → Type 0
+Storable k = Sized k × (getD (k .bytes) 0 0 ≡ 0x04)
+
+-- what every outcome of session s has
+pub record Lawful (s : Session) (a : SessionOutcome) : Type 0 where
+  pub answer : OnSessions (a .answer)
+  pub refusal : isTaken (a .answer) ≡ false → a ≡ answered (a .answer) (refusedSession (a .answer) s)
+  pub held : isStage (s .stage) Idle ≡ false → eqb (answerNumber (a .answer)) 9 ≡ false
+  pub session : Canonical s → Canonical (a .session)
+  pub storable : a .stores ≡ true → Storable (a .key)
+
+-- a session in a stage is no idle one
+pub in-a-stage : (s : Session) → ltb 0 (stageNumber (s .stage)) ≡ true → Canonical s
+in-a-stage s h e =
+    let z : stageNumber (s .stage) ≡ 0 = ap stageNumber e in
+    absurd (omega (arith, ltb-true 0 (stageNumber (s .stage)) h))
+
+module _ {s : Session} where
+  lawful-if : (b : Bool) {x y : SessionOutcome} → Lawful s x → (b ≡ false → Lawful s y) → Lawful s (if b then x else y)
+  lawful-if = if-holds (Lawful s)
+
+  -- the session goes on in a stage
+  lawful-stays : (u : Session) → ltb 0 (stageNumber (u .stage)) ≡ true → Lawful s (answered Taken u)
+  lawful-stays u h = record {
+    answer = taken;
+    refusal = λ e. absurd (true-is (sym e));
+    held = λ _. refl;
+    session = λ _. in-a-stage u h;
+    storable = λ e. absurd (true-is e);
+  }
+
+  -- K is dropped
+  lawful-drops : (a : Answer) → OnSessions a → eqb (answerNumber a) 9 ≡ false → Lawful s (dropped a)
+  lawful-drops a o h = record {
+    answer = o;
+    refusal = λ _. rw h;
+    held = λ _. h;
+    session = λ _ _. refl;
+    storable = λ e. absurd (true-is e);
+  }
+
+  -- the link is idle
+  lawful-idle : isStage (s .stage) Idle ≡ true → Lawful s (answered LinkIdle s)
+  lawful-idle h = record {
+    answer = link-idle;
+    refusal = λ _. refl;
+    held = λ e. absurd (true-is (sym e ∙ h));
+    session = λ c. c;
+    storable = λ e. absurd (true-is e);
+  }
+
+  lawful-stage : (needed : Stage) (rule : Session → SessionOutcome) → Lawful s (rule s) → Lawful s (inStage needed rule s)
+  unfolding inStage
+  lawful-stage needed rule p = go (isStage (s .stage) Idle) refl
+    where
+      go : (b : Bool) → isStage (s .stage) Idle ≡ b
+          → Lawful s (if b then answered LinkIdle s else
+          if not (isStage (s .stage) needed) then dropped WrongStage else rule s)
+      go true h = lawful-idle h
+      go false h = lawful-if (not (isStage (s .stage) needed)) (lawful-drops WrongStage wrong-stage refl) (λ _. p)
+
+  lawful-failed : Lawful s (pairingFailed s)
+  lawful-failed = go (isStage (s .stage) Idle) refl
+    where
+      go : (b : Bool) → isStage (s .stage) Idle ≡ b → Lawful s (if b then answered LinkIdle s else dropped Taken)
+      go true h = lawful-idle h
+      go false h = lawful-drops Taken taken refl
+
+-- ---- the events
+
+begun-lawful : (t c : ℕ) (s : Session) → Lawful s (begun t c s)
+begun-lawful t c s =
+    lawful-if (refusedCapability c) (lawful-drops CapabilityRefused capability-refused refl)
+    (λ _. lawful-stays (becomes Pairing t s) refl)
+
+compared-lawful : (t : ℕ) (s : Session) (plain : List ℕ) → Lawful s (comparedPasskey t s plain)
+unfolding comparedPasskey
+compared-lawful t s plain =
+    lawful-if (eqb (passkeyIn plain) (s .passkey))
+    (record {
+      answer = taken;
+      refusal = λ e. absurd (true-is (sym e));
+      held = λ _. refl;
+      session = λ _. in-a-stage (becomes Proved t s) refl;
+      storable = λ e. absurd (true-is e);
+    })
+    (λ _. record {
+      answer = taken;
+      refusal = λ e. absurd (true-is (sym e));
+      held = λ _. refl;
+      session = λ _ _. refl;
+      storable = λ e. absurd (true-is e);
+    })
+
+passkey-lawful : (t : ℕ) (block : List ℕ) (s : Session) → Lawful s (openedPasskey t block s)
+passkey-lawful t block s =
+    lawful-if (badBlock 0x02 (s .key) block) (lawful-drops BadBlock bad-block refl)
+    (λ _. compared-lawful t s (invCipher (s .key) block))
+
+-- a block that is not bad begins as wanted
+begins : (first : ℕ) (key block : List ℕ) → badBlock first key block ≡ false → getD (invCipher key block) 0 0 ≡ first
+begins first key block e =
+    eqb-true _ _ (not-false _ (or-false-right (not (eqb (length block) 16))
+    (not (eqb (getD (invCipher key block) 0 0) first)) e))
+
+account-key-lawful : (block : List ℕ) (s : Session) → Lawful s (openedAccountKey block s)
+account-key-lawful block s =
+    lawful-if (badBlock 0x04 (s .key) block) (lawful-drops BadBlock bad-block refl) (λ e. record {
+      answer = taken;
+      refusal = λ h. absurd (true-is (sym h));
+      held = λ _. refl;
+      session = λ _ _. refl;
+      storable = λ _. (length-invCipher (s .key) block, begins 0x04 (s .key) block e);
+    })
+
+pub step-lawful : (e : PairingEvent) (t : ℕ) (s : Session) → Lawful s (sessionStep e t s)
+unfolding pairingStarted confirmationNeeded passkeyWrite pairingEnded accountKeyWrite
+step-lawful (PairingStarted capability) t s = lawful-stage Asked (begun t capability) (begun-lawful t capability s)
+step-lawful (ConfirmationNeeded passkey) t s =
+    lawful-stage Pairing (λ u. answered Taken (confirming t passkey u)) (lawful-stays (confirming t passkey s) refl)
+step-lawful (PasskeyWrite block salt out) t s =
+    lawful-stage Confirming (openedPasskey t block) (passkey-lawful t block s)
+step-lawful (PairingEnded true) t s =
+    lawful-stage Proved (λ u. answered Taken (becomes Paired t u)) (lawful-stays (becomes Paired t s) refl)
+step-lawful (PairingEnded false) t s = lawful-failed
+step-lawful (AccountKeyWrite block) t s =
+    lawful-stage Paired (openedAccountKey block) (account-key-lawful block s)
+
+-- on an idle link every event gets 9, and changes nothing
+module _ (t : ℕ) (s : Session) (h : s .stage ≡ Idle) where
+  is-idle : isStage (s .stage) Idle ≡ true
+  is-idle = ap (λ (x : Stage). isStage x Idle) h
+
+  pub idle-step : (e : PairingEvent) → sessionStep e t s ≡ answered LinkIdle s
+  unfolding pairingStarted confirmationNeeded passkeyWrite pairingEnded accountKeyWrite
+  idle-step (PairingStarted capability) = laws.link-idle Asked (begun t capability) s is-idle
+  idle-step (ConfirmationNeeded passkey) = laws.link-idle Pairing (λ u. answered Taken (confirming t passkey u)) s is-idle
+  idle-step (PasskeyWrite block salt out) = laws.link-idle Confirming (openedPasskey t block) s is-idle
+  idle-step (PairingEnded true) = laws.link-idle Proved (λ u. answered Taken (becomes Paired t u)) s is-idle
+  idle-step (PairingEnded false) = rw is-idle
+  idle-step (AccountKeyWrite block) = laws.link-idle Paired (openedAccountKey block) s is-idle
+
+-- a refusal leaves the lent output
+pub refusal-leaves : (e : PairingEvent) (t : ℕ) (s : Session) → isTaken (sessionStep e t s .answer) ≡ false
+    → leaves e t s ≡ lent e
+refusal-leaves (PairingStarted capability) t s h = refl
+refusal-leaves (ConfirmationNeeded passkey) t s h = refl
+refusal-leaves (PasskeyWrite block salt out) t s h = laws.output-kept salt out s (passkeyWrite t block s) h
+refusal-leaves (PairingEnded success) t s h = refl
+refusal-leaves (AccountKeyWrite block) t s h = refl
