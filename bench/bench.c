@@ -1,13 +1,15 @@
 /*
  * Runs one operation of one implementation a number of times:
  *
- *     bench ours|bearssl digest|encrypt|decrypt LENGTH COUNT
+ *     bench ours|bearssl digest|encrypt|decrypt|seal|open LENGTH COUNT
  *
  * and prints the nanoseconds that all of it took and the bytes that came out last. Each turn works
- * on what the turn before it made, so the last bytes depend on every turn. LENGTH is the message's;
- * a block has 16 bytes.
+ * on what the turn before it made, so the last bytes depend on every turn; `open` counts the packets
+ * that were good. LENGTH is that of the message, of the name to seal or of the packet to open; a
+ * block has 16 bytes.
  */
 #include <bearssl.h>
+#include <stdbool.h>
 #include <stdint.h>
 #include <stdio.h>
 #include <stdlib.h>
@@ -18,6 +20,8 @@
 void bench_digest(const uint8_t *msg, size_t len, uint8_t out[32]);
 void bench_encrypt(const uint8_t key[16], uint8_t block[16]);
 void bench_decrypt(const uint8_t key[16], uint8_t block[16]);
+void bench_seal(const uint8_t key[16], const uint8_t nonce[8], const uint8_t *name, size_t name_len, uint8_t out[80]);
+uint8_t bench_open(const uint8_t key[16], const uint8_t *packet, size_t packet_len);
 
 /* BearSSL's small AES and its key schedule: in its archive, and not in its headers. */
 unsigned br_aes_keysched(uint32_t *skey, const void *key, size_t key_len);
@@ -26,11 +30,18 @@ void br_aes_small_decrypt(unsigned num_rounds, const uint32_t *skey, void *data)
 
 enum { LONGEST = 1000, SCHEDULE_WORDS = 60 };
 
+/* A packet: the tag, the nonce, and the name under the counter mode. */
+enum { TAG = 8, NONCE = 8, DATA = TAG + NONCE, NAME_MAX = 64, PACKET_MAX = DATA + NAME_MAX };
+
 struct work {
 	size_t length;
 	uint8_t key[16];
 	uint8_t message[LONGEST];
-	uint8_t result[32]; /* the hash, or the block and zeros */
+	uint8_t nonce[NONCE];
+	uint8_t name[NAME_MAX]; /* ASCII, so UTF-8 */
+	uint8_t packet[PACKET_MAX]; /* with as much of that name as fits the length, by BearSSL */
+	uint8_t opened[NAME_MAX]; /* what BearSSL opened last */
+	uint8_t result[PACKET_MAX]; /* the hash, the block, the packet, or the number of good ones; and zeros */
 };
 
 typedef void (*operation)(struct work *);
@@ -74,23 +85,97 @@ static void bearssl_decrypt(struct work *w)
 	br_aes_small_decrypt(rounds, schedule, w->result);
 }
 
-static const struct {
+/* ---- packets with a name */
+
+static void ours_seal(struct work *w)
+{
+	bench_seal(w->key, w->nonce, w->name, w->length, w->result);
+	w->nonce[0] = w->result[0];
+}
+
+/* Block i of the data is joined with the cipher of `i, seven zero bytes, nonce`. BearSSL's own counter mode has its
+ * counter in the last four bytes, so its cipher is called block by block; the key is expanded once. */
+static void bearssl_counter_mode(const uint8_t key[16], const uint8_t nonce[NONCE], uint8_t *data, size_t length)
+{
+	uint32_t schedule[SCHEDULE_WORDS];
+	unsigned rounds = br_aes_keysched(schedule, key, 16);
+	for (size_t at = 0; at < length; at += 16) {
+		uint8_t block[16] = { (uint8_t)(at / 16) };
+		memcpy(block + 8, nonce, NONCE);
+		br_aes_small_encrypt(rounds, schedule, block);
+		for (size_t i = 0; i < 16 && at + i < length; i++)
+			data[at + i] ^= block[i];
+	}
+}
+
+/* The tag of nonce and data. HMAC fills its key up with zeros to 64 bytes. */
+static void bearssl_tag(const uint8_t key[16], const uint8_t *message, size_t length, uint8_t tag[TAG])
+{
+	br_hmac_key_context padded;
+	br_hmac_context context;
+	br_hmac_key_init(&padded, &br_sha256_vtable, key, 16);
+	br_hmac_init(&context, &padded, TAG);
+	br_hmac_update(&context, message, length);
+	br_hmac_out(&context, tag);
+}
+
+static void bearssl_packet(const struct work *w, size_t name_length, uint8_t *packet)
+{
+	memcpy(packet + TAG, w->nonce, NONCE);
+	memcpy(packet + DATA, w->name, name_length);
+	bearssl_counter_mode(w->key, w->nonce, packet + DATA, name_length);
+	bearssl_tag(w->key, packet + TAG, NONCE + name_length, packet);
+}
+
+static void bearssl_seal(struct work *w)
+{
+	bearssl_packet(w, w->length, w->result);
+	w->nonce[0] = w->result[0];
+}
+
+static void ours_open(struct work *w)
+{
+	w->result[0] += bench_open(w->key, w->packet, w->length);
+}
+
+static void bearssl_open(struct work *w)
+{
+	uint8_t tag[TAG], different = 0;
+	bearssl_tag(w->key, w->packet + TAG, w->length - TAG, tag);
+	for (size_t i = 0; i < TAG; i++)
+		different |= tag[i] ^ w->packet[i];
+	if (different)
+		return;
+	memcpy(w->opened, w->packet + DATA, w->length - DATA);
+	bearssl_counter_mode(w->key, w->packet + TAG, w->opened, w->length - DATA);
+	w->result[0]++;
+}
+
+static const struct operation_of {
 	const char *who, *what;
 	operation run;
+	size_t shortest, longest;
 } operations[] = {
-	{ "ours", "digest", ours_digest },
-	{ "ours", "encrypt", ours_encrypt },
-	{ "ours", "decrypt", ours_decrypt },
-	{ "bearssl", "digest", bearssl_digest },
-	{ "bearssl", "encrypt", bearssl_encrypt },
-	{ "bearssl", "decrypt", bearssl_decrypt },
+	{ "ours", "digest", ours_digest, 0, LONGEST },
+	{ "ours", "encrypt", ours_encrypt, 16, 16 },
+	{ "ours", "decrypt", ours_decrypt, 16, 16 },
+	{ "ours", "seal", ours_seal, 0, NAME_MAX },
+	{ "ours", "open", ours_open, DATA, PACKET_MAX },
+	{ "bearssl", "digest", bearssl_digest, 0, LONGEST },
+	{ "bearssl", "encrypt", bearssl_encrypt, 16, 16 },
+	{ "bearssl", "decrypt", bearssl_decrypt, 16, 16 },
+	{ "bearssl", "seal", bearssl_seal, 0, NAME_MAX },
+	{ "bearssl", "open", bearssl_open, DATA, PACKET_MAX },
 };
 
-static operation find(const char *who, const char *what)
+/* The operation, if it takes that length. */
+static operation find(const char *who, const char *what, size_t length)
 {
-	for (size_t i = 0; i < sizeof operations / sizeof *operations; i++)
-		if (!strcmp(operations[i].who, who) && !strcmp(operations[i].what, what))
-			return operations[i].run;
+	for (size_t i = 0; i < sizeof operations / sizeof *operations; i++) {
+		const struct operation_of *o = &operations[i];
+		if (!strcmp(o->who, who) && !strcmp(o->what, what))
+			return o->shortest <= length && length <= o->longest ? o->run : NULL;
+	}
 	return NULL;
 }
 
@@ -98,6 +183,22 @@ static void fill(uint8_t *bytes, size_t count, unsigned first)
 {
 	for (size_t i = 0; i < count; i++)
 		bytes[i] = (uint8_t)(7 * i + first);
+}
+
+/* A packet to open, and before it a damaged one, which has to be refused. */
+static void prepare_open(operation run, struct work *w)
+{
+	bearssl_packet(w, w->length - DATA, w->packet);
+	w->packet[w->length - 1] ^= 1;
+	run(w);
+	w->packet[w->length - 1] ^= 1;
+	bool refused = w->result[0] == 0;
+	bearssl_open(w);
+	if (!refused || w->result[0] != 1 || memcmp(w->opened, w->name, w->length - DATA)) {
+		fputs("open: a damaged packet is not refused, or a good one does not hold its name\n", stderr);
+		exit(1);
+	}
+	w->result[0] = 0;
 }
 
 static uint64_t now(void)
@@ -110,14 +211,18 @@ static uint64_t now(void)
 int main(int argc, char **argv)
 {
 	static struct work work;
-	operation run = argc == 5 ? find(argv[1], argv[2]) : NULL;
-	if (run == NULL || strtoul(argv[3], NULL, 10) > LONGEST) {
-		fputs("usage: bench ours|bearssl digest|encrypt|decrypt LENGTH COUNT\n", stderr);
+	work.length = argc == 5 ? strtoul(argv[3], NULL, 10) : 0;
+	operation run = argc == 5 ? find(argv[1], argv[2], work.length) : NULL;
+	if (run == NULL) {
+		fputs("usage: bench ours|bearssl digest|encrypt|decrypt|seal|open LENGTH COUNT\n", stderr);
 		return 2;
 	}
-	work.length = strtoul(argv[3], NULL, 10);
 	fill(work.key, sizeof work.key, 1);
 	fill(work.message, sizeof work.message, 3);
+	fill(work.nonce, sizeof work.nonce, 5);
+	memset(work.name, 'n', sizeof work.name);
+	if (!strcmp(argv[2], "open"))
+		prepare_open(run, &work);
 	unsigned long count = strtoul(argv[4], NULL, 10);
 
 	uint64_t start = now();

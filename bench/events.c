@@ -32,15 +32,20 @@ static const fp_start START = { .identity = { .public_address = { { 0xA0, 0xB1, 
 				.ble = { { 0x7A, 0x01, 0x02, 0x03, 0x04, 0x05 } },
 				.salt = { 0xC7, 0xC8 } };
 static const fp_element ELEMENT = { .accepted = 1, .secret = { 0x9D, 0xAD, 0xE4, 0xF8 } };
+static const uint8_t NONCE[8] = { 0x70, 0x71, 0x72, 0x73, 0x74, 0x75, 0x76, 0x77 };
 static const uint8_t SALT[12] = { 0x50, 0x51, 0x52, 0x53, 0x54, 0x55, 0x56, 0x57, 0x58, 0x59, 0x5A, 0x5B };
 
 /* What the events are given: made before they are counted. */
 static uint8_t request[80], passkey_block[16], account_block[16], list[FP_STORED_LIST_MAX];
-static size_t request_length, list_length;
-static uint8_t out[FP_STORED_LIST_MAX];
+static uint8_t name[FP_NAME_MAX], written_packet[FP_PACKET_MAX];
+static size_t request_length, list_length, name_length, written_length;
+static uint8_t out[FP_STORED_LIST_MAX], packet[FP_PACKET_MAX];
 
 /* Account keys that differ in their last byte alone. Real ones differ in their second, and take as long to compare. */
 static bool alike;
+
+/* The flags of the requests: 0x20 asks for the name. */
+static uint8_t flags;
 
 /* ---- what the phone sends */
 
@@ -77,6 +82,7 @@ static void encrypt(unsigned whose, uint8_t block[16])
 static void make_request(unsigned whose, uint8_t salt)
 {
 	memset(request, 0, sizeof request);
+	request[1] = flags;
 	memcpy(request + 2, START.ble.bytes, 6);
 	request[15] = salt;
 	encrypt(whose, request);
@@ -90,6 +96,28 @@ static void make_blocks(void)
 	encrypt(SHARED, passkey_block);
 	account_key(UNKNOWN, account_block);
 	encrypt(SHARED, account_block);
+}
+
+/* The packet with which the phone names the device: its tag, its nonce, and the name under the counter mode. */
+static void make_name_write(size_t length)
+{
+	uint8_t key[16];
+	br_hmac_key_context padded;
+	br_hmac_context context;
+	written_length = 16 + length;
+	memcpy(written_packet + 8, NONCE, 8);
+	for (size_t at = 0; at < length; at += 16) {
+		uint8_t block[16] = { (uint8_t)(at / 16) };
+		memcpy(block + 8, NONCE, 8);
+		encrypt(SHARED, block);
+		for (size_t i = 0; i < 16 && at + i < length; i++)
+			written_packet[16 + at + i] = 'w' ^ block[i];
+	}
+	key_under(SHARED, key);
+	br_hmac_key_init(&padded, &br_sha256_vtable, key, sizeof key);
+	br_hmac_init(&context, &padded, 8);
+	br_hmac_update(&context, written_packet + 8, 8 + length);
+	br_hmac_out(&context, written_packet);
 }
 
 static void make_list(unsigned keys)
@@ -110,16 +138,27 @@ static fp_outcome link_down(const fp_device *d) { return fp_link_down(*d, LINK, 
 static fp_outcome no_link(const fp_device *d) { return fp_link_up(*d, NO_LINK, NOW); }
 static fp_outcome pairing_mode(const fp_device *d) { return fp_pairing_mode(*d, 1, NOW); }
 static fp_outcome rotated(const fp_device *d) { return fp_address_rotated(*d, START.ble, SALT, NOW); }
-static fp_outcome power_on(const fp_device *d) { return fp_power_on(*d, list, list_length, START); }
+static fp_outcome power_on(const fp_device *d)
+{
+	return fp_power_on(*d, list, list_length, name, name_length, START);
+}
 static fp_outcome reset(const fp_device *d) { return fp_factory_reset(*d, NOW); }
 static fp_outcome started(const fp_device *d) { return fp_pairing_started(*d, LINK, NOW, 1); }
 static fp_outcome needed(const fp_device *d) { return fp_confirmation_needed(*d, LINK, NOW, PASSKEY); }
 static fp_outcome ended(const fp_device *d) { return fp_pairing_ended(*d, LINK, NOW, 1); }
 static fp_outcome account(const fp_device *d) { return fp_account_key_write(*d, LINK, NOW, account_block, 16); }
 
-static fp_outcome key_based(const fp_device *d)
+static fp_outcome key_based_on(const fp_device *d, uint8_t link, uint64_t clock)
 {
-	return fp_key_based_write(*d, LINK, NOW, request, request_length, ELEMENT, SALT, out, sizeof out);
+	return fp_key_based_write(*d, link, clock, request, request_length, ELEMENT, SALT, NONCE, out, sizeof out, packet,
+				  sizeof packet);
+}
+
+static fp_outcome key_based(const fp_device *d) { return key_based_on(d, LINK, NOW); }
+
+static fp_outcome name_write(const fp_device *d)
+{
+	return fp_name_write(*d, LINK, NOW, written_packet, written_length);
 }
 
 static fp_outcome passkey(const fp_device *d)
@@ -133,6 +172,7 @@ static fp_outcome told(fp_report report)
 	fp_outcome o;
 	o.reply.answer = report.answer;
 	o.reply.tried = 0;
+	o.reply.packet_length = 0;
 	o.next.stored.length = report.length;
 	return o;
 }
@@ -178,6 +218,38 @@ static fp_device powered_alike(unsigned keys)
 	return powered(keys);
 }
 
+/* The longest name for the device that is powered on next. */
+static void give_name(void)
+{
+	name_length = sizeof name;
+	memset(name, 'n', sizeof name);
+}
+
+static fp_device off_named(unsigned keys)
+{
+	give_name();
+	return off(keys);
+}
+
+static fp_device named(unsigned keys)
+{
+	give_name();
+	return powered(keys);
+}
+
+/* The request that comes asks for the name. */
+static fp_device asked_for_name(unsigned keys)
+{
+	flags = 0x20;
+	return named(keys);
+}
+
+static fp_device asked_for_empty_name(unsigned keys)
+{
+	flags = 0x20;
+	return powered(keys);
+}
+
 static fp_device open_to_pair(unsigned keys)
 {
 	return must(fp_pairing_mode(powered(keys), 1, BEFORE), FP_TAKEN);
@@ -188,6 +260,20 @@ static fp_device asked(unsigned keys)
 	fp_device d = open_to_pair(keys);
 	make_request(SHARED, 0);
 	return must(key_based(&d), FP_TAKEN);
+}
+
+/* The phone writes a name: the longest, or an empty one in place of the longest. */
+static fp_device asked_to_name(unsigned keys)
+{
+	make_name_write(FP_NAME_MAX);
+	return asked(keys);
+}
+
+static fp_device asked_to_unname(unsigned keys)
+{
+	give_name();
+	make_name_write(0);
+	return asked(keys);
 }
 
 static fp_device pairing(unsigned keys)
@@ -223,18 +309,21 @@ static fp_device locked(unsigned keys)
 	return d;
 }
 
-/* Every place in use: five keys, sixteen salts, a key on every link, and all of them as alike as can be. */
+/* Every place in use: five keys, sixteen salts, the longest name, a key on every link, and all keys and salts as alike as
+ * can be. */
 static fp_device full(unsigned keys)
 {
-	fp_device d = powered_alike(keys);
+	alike = true;
+	fp_device d = named(keys);
 	for (uint8_t i = 1; i <= FP_MAX_SALTS; i++) {
 		make_request(0, i);
-		d = must(fp_key_based_write(d, i % FP_LINKS, BEFORE, request, 16, ELEMENT, SALT, out, sizeof out), FP_TAKEN);
+		d = must(key_based_on(&d, i % FP_LINKS, BEFORE), FP_TAKEN);
 	}
 	return d;
 }
 
-/* ---- the rows: a name, the device and its keys, the event, what it must answer; whose key a request is under */
+/* ---- the rows: a name, the device and its keys, the event, what it must answer; whose key a request is under, and the
+ * length of the packet with the device's name that it must leave */
 
 struct row {
 	const char *name;
@@ -243,46 +332,54 @@ struct row {
 	fp_outcome (*event)(const fp_device *);
 	uint8_t answer, tried, length; /* the length of the stored list afterwards, or of the text told */
 	unsigned whose;
+	uint8_t packet;
 };
 
 static const struct row rows[] = {
-	{ "copy of an fp_device by memcpy", powered, 0, copied, 0, 0, 4, 0 },
-	{ "link up on link 8 (1), 0 keys", powered, 0, no_link, 1, 0, 4, 0 },
-	{ "link up on link 8 (1), 1 key", powered, 1, no_link, 1, 0, 20, 0 },
-	{ "link up on link 8 (1), 5 keys", powered, 5, no_link, 1, 0, 84, 0 },
-	{ "link up on link 8 (1), 5 keys that differ in their last byte", powered_alike, 5, no_link, 1, 0, 84, 0 },
-	{ "link up on link 8 (1), all places in use", full, 5, no_link, 1, 0, 84, 0 },
-	{ "overflow marker", asked, 0, overflow, 0, 0, 4, 0 },
-	{ "link up", powered, 0, link_up, 0, 0, 4, 0 },
-	{ "link down", asked, 0, link_down, 0, 0, 4, 0 },
-	{ "pairing mode", powered, 0, pairing_mode, 0, 0, 4, 0 },
-	{ "address rotated", powered, 0, rotated, 0, 0, 4, 0 },
-	{ "power-on, 0 keys", off, 0, power_on, 0, 0, 4, 0 },
-	{ "power-on, 5 keys", off, 5, power_on, 0, 0, 84, 0 },
-	{ "factory reset, 5 keys", powered, 5, reset, 0, 0, 4, 0 },
-	{ "key-based write of 16, 0 keys (7)", powered, 0, key_based, 7, 0, 4, UNKNOWN },
-	{ "key-based write of 16, 1 key, fits", powered, 1, key_based, 0, 1, 20, 0 },
-	{ "key-based write of 16, 5 keys, the fifth fits", powered, 5, key_based, 0, 5, 84, 4 },
-	{ "key-based write of 16, 5 keys, none fits (7)", powered, 5, key_based, 7, 5, 84, UNKNOWN },
-	{ "key-based write of 16, the fifth fits, all places in use", full, 5, key_based, 0, 5, 84, 4 },
-	{ "key-based write of 80, 0 keys, fits", open_to_pair, 0, key_based, 0, 1, 4, SHARED },
-	{ "key-based write locked out (5), 1 key", locked, 1, key_based, 5, 0, 20, 0 },
-	{ "pairing started", asked, 0, started, 0, 0, 4, 0 },
-	{ "confirmation needed", pairing, 0, needed, 0, 0, 4, 0 },
-	{ "passkey write, equal", confirming, 0, passkey, 0, 0, 4, 0 },
-	{ "pairing ended", proved, 0, ended, 0, 0, 4, 0 },
-	{ "account key write, 0 keys", paired, 0, account, 0, 0, 20, 0 },
-	{ "account key write, 5 keys", paired, 5, account, 0, 0, 84, 0 },
-	{ "advertisement, 0 keys", powered, 0, advertisement, 0, 0, 6, 0 },
-	{ "advertisement, 5 keys", powered, 5, advertisement, 0, 0, 18, 0 },
-	{ "stored list, 5 keys", powered, 5, stored_list, 0, 0, 84, 0 },
+	{ "copy of an fp_device by memcpy", powered, 0, copied, 0, 0, 4, 0, 0 },
+	{ "link up on link 8 (1), 0 keys", powered, 0, no_link, 1, 0, 4, 0, 0 },
+	{ "link up on link 8 (1), 1 key", powered, 1, no_link, 1, 0, 20, 0, 0 },
+	{ "link up on link 8 (1), 5 keys", powered, 5, no_link, 1, 0, 84, 0, 0 },
+	{ "link up on link 8 (1), 5 keys that differ in their last byte", powered_alike, 5, no_link, 1, 0, 84, 0, 0 },
+	{ "link up on link 8 (1), 0 keys, name of 64 bytes", named, 0, no_link, 1, 0, 4, 0, 0 },
+	{ "link up on link 8 (1), all places in use", full, 5, no_link, 1, 0, 84, 0, 0 },
+	{ "overflow marker", asked, 0, overflow, 0, 0, 4, 0, 0 },
+	{ "link up", powered, 0, link_up, 0, 0, 4, 0, 0 },
+	{ "link down", asked, 0, link_down, 0, 0, 4, 0, 0 },
+	{ "pairing mode", powered, 0, pairing_mode, 0, 0, 4, 0, 0 },
+	{ "address rotated", powered, 0, rotated, 0, 0, 4, 0, 0 },
+	{ "power-on, 0 keys", off, 0, power_on, 0, 0, 4, 0, 0 },
+	{ "power-on, 5 keys", off, 5, power_on, 0, 0, 84, 0, 0 },
+	{ "power-on, 0 keys, name of 64 bytes", off_named, 0, power_on, 0, 0, 4, 0, 0 },
+	{ "factory reset, 5 keys", powered, 5, reset, 0, 0, 4, 0, 0 },
+	{ "key-based write of 16, 0 keys (7)", powered, 0, key_based, 7, 0, 4, UNKNOWN, 0 },
+	{ "key-based write of 16, 1 key, fits", powered, 1, key_based, 0, 1, 20, 0, 0 },
+	{ "key-based write of 16, 1 key, fits, name of 0 bytes sent", asked_for_empty_name, 1, key_based, 0, 1, 20, 0, 16 },
+	{ "key-based write of 16, 1 key, fits, name of 64 bytes sent", asked_for_name, 1, key_based, 0, 1, 20, 0, 80 },
+	{ "key-based write of 16, 1 key, fits, name of 64 bytes not asked for", named, 1, key_based, 0, 1, 20, 0, 0 },
+	{ "key-based write of 16, 5 keys, the fifth fits", powered, 5, key_based, 0, 5, 84, 4, 0 },
+	{ "key-based write of 16, 5 keys, none fits (7)", powered, 5, key_based, 7, 5, 84, UNKNOWN, 0 },
+	{ "key-based write of 16, the fifth fits, all places in use", full, 5, key_based, 0, 5, 84, 4, 0 },
+	{ "key-based write of 80, 0 keys, fits", open_to_pair, 0, key_based, 0, 1, 4, SHARED, 0 },
+	{ "key-based write locked out (5), 1 key", locked, 1, key_based, 5, 0, 20, 0, 0 },
+	{ "pairing started", asked, 0, started, 0, 0, 4, 0, 0 },
+	{ "confirmation needed", pairing, 0, needed, 0, 0, 4, 0, 0 },
+	{ "passkey write, equal", confirming, 0, passkey, 0, 0, 4, 0, 0 },
+	{ "pairing ended", proved, 0, ended, 0, 0, 4, 0, 0 },
+	{ "name write of 0 bytes, in place of 64", asked_to_unname, 0, name_write, 0, 0, 4, 0, 0 },
+	{ "name write of 64 bytes", asked_to_name, 0, name_write, 0, 0, 4, 0, 0 },
+	{ "account key write, 0 keys", paired, 0, account, 0, 0, 20, 0, 0 },
+	{ "account key write, 5 keys", paired, 5, account, 0, 0, 84, 0, 0 },
+	{ "advertisement, 0 keys", powered, 0, advertisement, 0, 0, 6, 0, 0 },
+	{ "advertisement, 5 keys", powered, 5, advertisement, 0, 0, 18, 0, 0 },
+	{ "stored list, 5 keys", powered, 5, stored_list, 0, 0, 84, 0, 0 },
 };
 enum { ROWS = sizeof rows / sizeof *rows };
 
 /* ---- what the row's device costs to read in and to write out */
 
 /* A stored list of no bytes is refused: the device comes back. */
-static fp_outcome refused(const fp_device *d) { return fp_power_on(*d, list, 0, START); }
+static fp_outcome refused(const fp_device *d) { return fp_power_on(*d, list, 0, name, 0, START); }
 static fp_outcome no_room(const fp_device *d) { return told(fp_stored_list(*d, out, 0)); }
 static fp_outcome nothing(const fp_device *d) { return told((fp_report){ .answer = (uint8_t)d->clock, .length = 0 }); }
 
@@ -297,10 +394,11 @@ static fp_outcome (*interface_of(const struct row *row))(const fp_device *)
 static void check(const struct row *row, const fp_device *d)
 {
 	fp_outcome o = row->event(d);
-	if (o.reply.answer == row->answer && o.reply.tried == row->tried && o.next.stored.length == row->length)
+	if (o.reply.answer == row->answer && o.reply.tried == row->tried && o.next.stored.length == row->length &&
+	    o.reply.packet_length == row->packet)
 		return;
-	fprintf(stderr, "%s: answer %u, %u tried, length %u\n", row->name, o.reply.answer, o.reply.tried,
-		(unsigned)o.next.stored.length);
+	fprintf(stderr, "%s: answer %u, %u tried, length %u, packet of %u\n", row->name, o.reply.answer, o.reply.tried,
+		(unsigned)o.next.stored.length, o.reply.packet_length);
 	exit(1);
 }
 

@@ -36,7 +36,7 @@ def compiled(name, archive):
     return program
 
 
-# What one turn costs: all of it under "", and each function with all that it calls under its name.
+# What one turn costs: all of it under "", and under (caller, called) the calls of a function with all that it calls.
 def per_turn(command):
     few, many = (collected([*command, str(count)]) for count in (FEW, MANY))
     return {name: (many[name] - few[name]) / (MANY - FEW) for name in many}
@@ -52,16 +52,21 @@ def collected(command):
     return costs
 
 
-# Callgrind names a called function ("cfn=(number) name", the name only the first time), and two lines on what it cost.
+# Callgrind names a function ("fn=(number) name", the name only the first time) and below it each that it calls ("cfn=.."), with what
+# the calls cost two lines on.
 def inclusive(lines):
-    names, costs = {}, collections.Counter()
+    names, costs, caller = {}, collections.Counter(), None
     for at, line in enumerate(lines):
-        named = re.match(r"c?fn=\((\d+)\)(?: (.*))?", line)
-        if named and named[2]:
-            names[named[1]] = named[2]
-        if named and line.startswith("cfn"):
-            calls = next(i for i in range(at, len(lines)) if lines[i].startswith("calls="))
-            costs[names[named[1]]] += int(lines[calls + 1].split()[-1])
+        named = re.match(r"(c?)fn=\((\d+)\)(?: (.*))?", line)
+        if not named:
+            continue
+        if named[3]:
+            names[named[2]] = named[3]
+        if not named[1]:
+            caller = names[named[2]]
+            continue
+        calls = next(i for i in range(at, len(lines)) if lines[i].startswith("calls="))
+        costs[caller, names[named[2]]] += int(lines[calls + 1].split()[-1])
     return costs
 
 

@@ -13,19 +13,20 @@ SLICE = (c_void_p, c_size_t)
 
 # The arguments behind the device, and what is given back.
 EVENTS = {
-    "fp_power_on": (*SLICE, FpStart),
+    "fp_power_on": (*SLICE, *SLICE, FpStart),
     "fp_overflow": (),
     "fp_pairing_mode": (NUMBER, CLOCK),
     "fp_address_rotated": (FpAddress, *FIXED, CLOCK),
     "fp_factory_reset": (CLOCK,),
     "fp_link_up": (LINK, CLOCK),
     "fp_link_down": (LINK, CLOCK),
-    "fp_key_based_write": (LINK, CLOCK, *SLICE, FpElement, *FIXED, *SLICE),
+    "fp_key_based_write": (LINK, CLOCK, *SLICE, FpElement, *FIXED, *FIXED, *SLICE, *SLICE),
     "fp_pairing_started": (LINK, CLOCK, NUMBER),
     "fp_confirmation_needed": (LINK, CLOCK, c_uint32),
     "fp_passkey_write": (LINK, CLOCK, *SLICE, *FIXED, *SLICE),
     "fp_pairing_ended": (LINK, CLOCK, NUMBER),
     "fp_account_key_write": (LINK, CLOCK, *SLICE),
+    "fp_name_write": (LINK, CLOCK, *SLICE),
 }
 QUESTIONS = {
     "fp_advertisement": (NUMBER, *SLICE),

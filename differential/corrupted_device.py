@@ -2,9 +2,10 @@
 
 from ctypes import sizeof
 
+from reference.generator import random_names
 from reference.rules.stored_list import read_stored_list
 
-from .structs import LINKS, MOST_SALTS, STORED_LIST_MAX, FpDevice
+from .structs import LINKS, MOST_SALTS, NAME_MAX, STORED_LIST_MAX, FpDevice
 
 
 def copy(device):
@@ -58,6 +59,20 @@ def malformed_list(random, device):
         stored.bytes[random.choice((0, 1, 2, 3, *first_bytes))] ^= 1 << random.randrange(8)
 
 
+def long_name(random, device):
+    device.name.length = random.choice((65, 66, 80, 255, 256, 2**32 + 1, 2**64 - 1))
+
+
+def ill_formed_name(random, device):
+    set_name(device, random_names.ill_formed(random))
+
+
+def set_name(device, text):
+    """The name, with the bytes behind it as they were."""
+    device.name.length = len(text)
+    device.name.bytes[: len(text)] = list(text)
+
+
 def random_bytes(random, device):
     """Its length of the stored list is above 84, as good as surely."""
     memoryview(device).cast("B")[:] = random.randbytes(sizeof(FpDevice))
@@ -72,6 +87,8 @@ NO_DEVICE = (
     long_list,
     other_length,
     malformed_list,
+    long_name,
+    ill_formed_name,
     random_bytes,
 )
 
@@ -110,6 +127,12 @@ def behind_list(random, device):
     return room > 0
 
 
+def behind_name(random, device):
+    room = NAME_MAX - device.name.length
+    device.name.bytes[device.name.length :] = list(random.randbytes(room))
+    return room > 0
+
+
 def no_failure(random, device):
     if device.failures:
         return False
@@ -123,14 +146,14 @@ def reserved(random, device):
     return True
 
 
-NOT_IN_USE = (idle_link, free_salts, behind_salts, behind_list, no_failure, reserved)
+NOT_IN_USE = (idle_link, free_salts, behind_salts, behind_list, behind_name, no_failure, reserved)
 
 
 # ---- numbers that the header bounds nowhere
 
 
 def any_numbers(random, device):
-    """Moments, passkeys, addresses and salts as no list of events would leave them."""
+    """Moments, passkeys, addresses, salts and a name as no list of events would leave them."""
     device.clock = random.choice((0, random.getrandbits(64), 2**64 - 1))
     device.failed_at = random.choice((0, random.getrandbits(64), 2**64 - 1))
     for session in device.sessions:
@@ -142,3 +165,4 @@ def any_numbers(random, device):
         salt.length = random.choice((2, 8))
     device.spent.count = random.randrange(MOST_SALTS + 1)
     device.failures = random.randrange(11)
+    set_name(device, random_names.some_name(random))

@@ -3,7 +3,7 @@
 from reference.rules.device import Stage
 from reference.rules.stored_list import pack, stored_list
 
-from .structs import LINKS, MOST_SALTS, STORED_LIST_MAX
+from .structs import LINKS, MOST_SALTS, NAME_MAX, STORED_LIST_MAX
 
 STAGES = {
     Stage.ASKED: 1,
@@ -28,6 +28,7 @@ def expected_values(device):
     # While nothing is counted the last failure's moment is not in use.
     found += (device.failed_at if device.failures else 0,)
     found += stored(stored_list(device))
+    found += name(device.name)
     found += (device.public, device.model, device.ble, device.salt)
     found += (int(device.pairing_mode), device.failures, bytes(5))
     return tuple(found)
@@ -52,9 +53,14 @@ def stored(text):
     return len(text), text.ljust(STORED_LIST_MAX, b"\0"), bytes(4)
 
 
+def name(text):
+    """ "bytes past length are zero on the way out" """
+    return len(text), text.ljust(NAME_MAX, b"\0")
+
+
 def off():
     """ "all zeros and an empty list" """
     guard = *salts(()), 0
     identity = bytes(6), bytes(3)
     rest = bytes(6), bytes(2), 0, 0, bytes(5)
-    return (0, *IDLE * LINKS, *guard, *stored(pack(())), *identity, *rest)
+    return (0, *IDLE * LINKS, *guard, *stored(pack(())), *name(b""), *identity, *rest)

@@ -9,10 +9,10 @@ from .paths import FOLDER, HEADER
 from .setup_error import SetupError
 from .structs import BY_NAME
 
-# Document 01's answers in the order of its table; their numbers are what the library is compared by.
+# The answers in the order of the table; their numbers are what the library is compared by.
 ANSWERS = (
     "TAKEN UNKNOWN_LINK WRONG_LENGTH PASSKEY_TOO_LARGE CLOCK_WENT_BACK LOCKED_OUT NOT_IN_PAIRING_MODE NO_KEY_FITS"
-    " SALT_SPENT LINK_IDLE WRONG_STAGE CAPABILITY_REFUSED BAD_BLOCK OUTPUT_TOO_SHORT LIST_MALFORMED"
+    " SALT_SPENT LINK_IDLE WRONG_STAGE CAPABILITY_REFUSED BAD_BLOCK OUTPUT_TOO_SHORT LIST_MALFORMED NAME_REFUSED"
 ).split()
 STAGES = "IDLE ASKED PAIRING CONFIRMING PROVED PAIRED".split()
 CONFIRM = "UNASKED YES NO".split()
@@ -25,6 +25,8 @@ NUMBERS = {
     "FP_MAX_SALTS": 16,
     "FP_RESPONSE_SIZE": 16,
     "FP_STORED_LIST_MAX": 84,
+    "FP_NAME_MAX": 64,
+    "FP_PACKET_MAX": 80,
     "FP_ADVERTISEMENT_MAX": 18,
     "FP_NOT_A_DEVICE": 255,
 }

@@ -1,6 +1,7 @@
 """The built library, called with the events of the reference."""
 
 from ctypes import c_uint8
+from dataclasses import replace
 
 from reference.rules import events
 from reference.rules.events import Reply
@@ -19,9 +20,12 @@ class Library:
 
     def __init__(self, functions):
         self.functions = functions
-        self.input = GuardedMemory("request, block or list")
+        self.input = GuardedMemory("request, block, list or packet")
+        self.name = GuardedMemory("name")
         self.salt = GuardedMemory("salt")
+        self.nonce = GuardedMemory("nonce")
         self.output = GuardedMemory("output")
+        self.second_output = GuardedMemory("second output")
 
     def off(self):
         """The value before any device."""
@@ -58,13 +62,13 @@ class Library:
         self.input.check_kept(data)
         return result
 
-    def call_with_output(self, name, device, event, data, element):
-        """An event with an input, a salt and a lent output."""
-        address = self.input.lend_or_null(data)
+    def call_with_output(self, name, device, event, data, element=(), nonce=(), second=()):
+        """An event with an input, a salt and a lent output; a key-based write has more of each."""
+        request = self.input.lend_or_null(data), len(data)
         salt = self.salt.lend(event.salt)
-        out = self.output.lend(event.out)
+        out = self.output.lend(event.out), len(event.out)
         outcome = self.functions[name](
-            device, event.link, event.clock, address, len(data), *element, salt, out, len(event.out)
+            device, event.link, event.clock, *request, *element, salt, *nonce, *out, *second
         )
         self.input.check_kept(data)
         self.salt.check_kept(event.salt)
@@ -89,7 +93,8 @@ def reply_of(reply, out):
     wanted = reply.bond.wanted
     if wanted > 1 or reply.confirm > 2 or (not wanted and bond != NO_ADDRESS):
         raise InterfaceViolation(f"wanted {wanted}, bond {bond.hex()}, confirm {reply.confirm}")
-    return Reply(reply.answer, reply.tried, bond if wanted else None, CONFIRM[reply.confirm], out)
+    handed_out = reply.tried, bond if wanted else None, CONFIRM[reply.confirm]
+    return Reply(reply.answer, *handed_out, out, reply.packet_length)
 
 
 def array(data):
@@ -105,7 +110,10 @@ def flag_byte(flag, clock):
 def power_on(library, device, event):
     identity = FpIdentity(FpAddress(array(event.public)), array(event.model))
     start = FpStart(identity, FpAddress(array(event.ble)), array(event.salt))
-    return library.call_with_input("fp_power_on", device, (), event.stored, (start,))
+    name = library.name.lend_or_null(event.name), len(event.name)
+    result = library.call_with_input("fp_power_on", device, (), event.stored, (*name, start))
+    library.name.check_kept(event.name)
+    return result
 
 
 def overflow(library, device, event):
@@ -138,7 +146,13 @@ def factory_reset(library, device, event):
 
 def key_based_write(library, device, event):
     element = FpElement(flag_byte(event.accepted, event.clock), array(event.secret))
-    return library.call_with_output("fp_key_based_write", device, event, event.data, (element,))
+    nonce = library.nonce.lend(event.nonce)
+    second = library.second_output.lend(event.packet), len(event.packet)
+    after, reply = library.call_with_output(
+        "fp_key_based_write", device, event, event.data, (element,), (nonce,), second
+    )
+    library.nonce.check_kept(event.nonce)
+    return after, replace(reply, packet=library.second_output.bytes_after())
 
 
 def pairing_started(library, device, event):
@@ -150,7 +164,7 @@ def confirmation_needed(library, device, event):
 
 
 def passkey_write(library, device, event):
-    return library.call_with_output("fp_passkey_write", device, event, event.block, ())
+    return library.call_with_output("fp_passkey_write", device, event, event.block)
 
 
 def pairing_ended(library, device, event):
@@ -160,6 +174,10 @@ def pairing_ended(library, device, event):
 
 def account_key_write(library, device, event):
     return library.call_with_input("fp_account_key_write", device, (event.link, event.clock), event.block)
+
+
+def name_write(library, device, event):
+    return library.call_with_input("fp_name_write", device, (event.link, event.clock), event.packet)
 
 
 CALLS = {
@@ -176,4 +194,5 @@ CALLS = {
     events.PasskeyWrite: passkey_write,
     events.PairingEnded: pairing_ended,
     events.AccountKeyWrite: account_key_write,
+    events.NameWrite: name_write,
 }

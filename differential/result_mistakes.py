@@ -3,6 +3,7 @@
 from ctypes import c_uint8
 
 from .library import Library
+from .structs import FpName, FpSession
 
 
 def with_mistakes(library, changes):
@@ -25,6 +26,15 @@ def changed(function, change):
 def flip(address, place):
     """Change the lowest bit of a byte in lent memory."""
     c_uint8.from_address(address + place).value ^= 1
+
+
+def output(arguments):
+    """The address and the length of the response's output; in a key-based write the packet's stands behind it."""
+    return arguments[8:10] if len(arguments) == 12 else arguments[-2:]
+
+
+def second_output(arguments):
+    return arguments[10:12]
 
 
 def answers(result, answer):
@@ -58,22 +68,73 @@ def confirm_inverted(arguments, result):
 
 def response_byte(arguments, result):
     if answers(result, 0):
-        flip(arguments[-2], 15)
+        flip(output(arguments)[0], 15)
 
 
 def behind_response(arguments, result):
-    if answers(result, 0) and arguments[-1] > 16:
-        flip(arguments[-2], 16)
+    address, length = output(arguments)
+    if answers(result, 0) and length > 16:
+        flip(address, 16)
 
 
 def behind_output(arguments, result):
     if answers(result, 0):
-        flip(arguments[-2], arguments[-1])
+        flip(*output(arguments))
 
 
 def before_output(arguments, result):
     if answers(result, 0):
-        flip(arguments[-2], -1)
+        flip(output(arguments)[0], -1)
+
+
+def tag_byte(arguments, result):
+    if result.reply.packet_length:
+        flip(second_output(arguments)[0], 0)
+
+
+def packet_byte(arguments, result):
+    """The last byte that the packet has."""
+    if result.reply.packet_length > 16:
+        flip(second_output(arguments)[0], result.reply.packet_length - 1)
+
+
+def behind_packet(arguments, result):
+    address, length = second_output(arguments)
+    if 0 < result.reply.packet_length < length:
+        flip(address, result.reply.packet_length)
+
+
+def packet_unasked(arguments, result):
+    if answers(result, 0) and not result.reply.packet_length:
+        flip(second_output(arguments)[0], 0)
+
+
+def packet_on_refusal(arguments, result):
+    if answers(result, 8):
+        flip(second_output(arguments)[0], 0)
+
+
+def behind_second_output(arguments, result):
+    if answers(result, 0):
+        flip(*second_output(arguments))
+
+
+def packet_length_more(arguments, result):
+    result.reply.packet_length += result.reply.packet_length > 0
+
+
+def packet_length_unasked(arguments, result):
+    if answers(result, 0) and not result.reply.packet_length:
+        result.reply.packet_length = 16
+
+
+def packet_length_on_refusal(arguments, result):
+    if answers(result, 7):
+        result.reply.packet_length = 16
+
+
+def nonce_written(arguments, result):
+    flip(arguments[7], 0)
 
 
 def written_on_refusal(arguments, result):
@@ -89,6 +150,55 @@ def written_on_9(arguments, result):
 def input_written(arguments, result):
     if arguments[4] == 16:
         flip(arguments[3], 7)
+
+
+def name_answer(arguments, result):
+    if answers(result, 15):
+        result.reply.answer = 12
+
+
+def name_not_taken(arguments, result):
+    if answers(result, 0):
+        result.next.name = arguments[0].name
+
+
+def name_taken_with_15(arguments, result):
+    """As if it had been read: the ciphertext's length, and zeros."""
+    if answers(result, 15):
+        result.next.name.length = arguments[4] - 16
+        result.next.name.bytes[:] = [0] * 64
+
+
+def name_cut(arguments, result):
+    """The length is right, and the last byte is lost."""
+    if answers(result, 0) and result.next.name.length:
+        result.next.name.bytes[result.next.name.length - 1] = 0
+
+
+def behind_name(arguments, result):
+    name = result.next.name
+    if answers(result, 0) and name.length < 64:
+        name.bytes[name.length] = 1
+
+
+def key_dropped_on_15(arguments, result):
+    if answers(result, 15):
+        result.next.sessions[arguments[1]] = FpSession()
+
+
+def moment_moved(arguments, result):
+    if answers(result, 0):
+        result.next.sessions[arguments[1]].since = arguments[2]
+
+
+def name_kept(arguments, result):
+    if answers(result, 0):
+        result.next.name = arguments[0].name
+
+
+def name_input_written(arguments, result):
+    if arguments[4]:
+        flip(arguments[3], 0)
 
 
 def next_stored(arguments, result):
@@ -142,6 +252,22 @@ def marker_clears_count(arguments, result):
     result.next.failures = 0
 
 
+def marker_empties_name(arguments, result):
+    result.next.name = FpName()
+
+
+def name_taken_on_idle(arguments, result):
+    if answers(result, 9):
+        result.reply.answer = 0
+
+
+def name_changed_on_9(arguments, result):
+    """The clock becomes the name, in digits."""
+    if answers(result, 9):
+        digits = str(result.next.clock).encode()
+        result.next.name = FpName(len(digits), (c_uint8 * 64)(*digits))
+
+
 def marker_empties_list(arguments, result):
     result.next.stored.length = 4
     result.next.stored.bytes[:4] = [0, 2, 1, 0]
@@ -173,3 +299,9 @@ def unused_key_kept(arguments, result):
     for before, after in zip(arguments[0].sessions, result.next.sessions):
         if not before.stage:
             after.key = before.key
+
+
+def unused_name_bytes_kept(arguments, result):
+    length = result.next.name.length
+    if length == arguments[0].name.length:
+        result.next.name.bytes[length:] = arguments[0].name.bytes[length:]

@@ -1,6 +1,14 @@
 """The two runs of demand 3, in document 01's words, on the library alone."""
 
-from reference.rules.events import AccountKeyWrite, KeyBasedWrite, Overflow, PasskeyWrite, PowerOn
+from reference.rules.events import (
+    AccountKeyWrite,
+    KeyBasedWrite,
+    NameWrite,
+    Overflow,
+    PasskeyWrite,
+    PowerOn,
+    lent_outputs,
+)
 from reference.rules.stored_list import read_stored_list
 
 from .guarded_memory import InterfaceViolation
@@ -9,7 +17,7 @@ from .structs import STORED_LIST_MAX
 IDLE = 9
 # Every number that a link can have in C, those above 7 too.
 EVERY_LINK = frozenset(range(256))
-NEED_A_KEY = (PasskeyWrite, AccountKeyWrite)
+NEED_A_KEY = (PasskeyWrite, AccountKeyWrite, NameWrite)
 
 
 def after_marker(kind):
@@ -27,12 +35,13 @@ def first_device(library, entry):
 
 
 class Run:
-    """One run: its device, its list written out, and the links that wait for a request."""
+    """One run: its device, its list written out, its name, and the links that wait for a request."""
 
     def __init__(self, library, device):
         self.library = library
         self.device = device
         self.list = self.written()
+        self.name = self.shown_name()
         self.waiting = frozenset()
 
     def written(self):
@@ -40,11 +49,16 @@ class Run:
         _, length, out = self.library.stored_list(self.device, bytes(STORED_LIST_MAX))
         return out[:length]
 
+    def shown_name(self):
+        """The name that the device shows."""
+        name = self.device.name
+        return bytes(name.bytes[: name.length])
+
     def send(self, event):
         """The reply, and the keys that the event stored."""
         before = keys(self.list)
         self.device, reply = self.library.step(self.device, event)
-        self.list = self.written()
+        self.list, self.name = self.written(), self.shown_name()
         return reply, keys(self.list) - before
 
     def forbidden_after_marker(self, event, reply, stored, counts):
@@ -55,7 +69,7 @@ class Run:
         if link not in self.waiting:
             return None
         counts[after_marker(type(event))] += 1
-        # "no passkey write and no account key write gets 0", and no event of any kind stores a key
+        # "no passkey write, no account key write and no name write gets 0", and no event of any kind stores a key
         if stored or (isinstance(event, NEED_A_KEY) and reply.answer == 0):
             return f"after a marker and no request on link {link}: {event} got {reply}, stored {stored}"
         if isinstance(event, KeyBasedWrite) and reply.answer == 0:
@@ -106,18 +120,28 @@ class RunPair:
             return f"two runs: {event} stored {stored_second} in the second run alone"
         if stored_second and hasattr(event, "link"):
             self.counts["keys stored in the second run"] += 1
-        # The parting: the first run stores a key and the second does not.
-        self.parted = bool(stored_first - stored_second)
-        self.counts["partings"] += self.parted
-        if not self.parted and self.first.list != self.second.list:
+        name_written = isinstance(event, NameWrite) and first.answer == 0
+        self.counts["names taken in the second run"] += name_written and second.answer == 0
+        # The parting: only the first run stores a key, or only it takes a name.
+        by_a_key, by_a_name = bool(stored_first - stored_second), name_written and second.answer != 0
+        self.counts["partings by a key"] += by_a_key
+        self.counts["partings by a name"] += by_a_name
+        self.parted = by_a_key or by_a_name
+        return None if self.parted else self.unequal(event)
+
+    def unequal(self, event):
+        """What the two devices show differently, or None; up to the parting they show the same."""
+        if self.first.list != self.second.list:
             return f"two runs: stored lists differ after {event}"
+        if self.first.name != self.second.name:
+            return f"two runs: names differ after {event}"
         return None
 
     def alike(self, event, first, second):
         """The same answer, values and bytes, or 9 with untouched outputs in the second run only."""
         if first == second:
             return True
-        untouched = second.out == getattr(event, "out", b"")
+        untouched = (second.out, second.packet) == lent_outputs(event)
         lost = first.answer != IDLE and second.answer == IDLE and untouched
         self.counts["only the second got 9"] += lost
         return lost

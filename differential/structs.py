@@ -5,6 +5,7 @@ from ctypes import Structure, c_uint8, c_uint32, c_uint64
 LINKS = 8
 MOST_SALTS = 16
 STORED_LIST_MAX = 84
+NAME_MAX = 64
 
 
 class FpAddress(Structure):
@@ -37,6 +38,10 @@ class FpStored(Structure):
     ]
 
 
+class FpName(Structure):
+    _fields_ = [("length", c_uint64), ("bytes", c_uint8 * NAME_MAX)]
+
+
 class FpIdentity(Structure):
     _fields_ = [("public_address", FpAddress), ("model", c_uint8 * 3)]
 
@@ -48,6 +53,7 @@ class FpDevice(Structure):
         ("spent", FpSpentSalts),
         ("failed_at", c_uint64),
         ("stored", FpStored),
+        ("name", FpName),
         ("identity", FpIdentity),
         ("ble", FpAddress),
         ("salt", c_uint8 * 2),
@@ -71,12 +77,13 @@ class FpReply(Structure):
         ("answer", c_uint8),
         ("tried", c_uint8),
         ("confirm", c_uint8),
+        ("packet_length", c_uint8),
         ("bond", FpBond),
     ]
 
 
 class FpOutcome(Structure):
-    _fields_ = [("next", FpDevice), ("reply", FpReply), ("reserved", c_uint8 * 6)]
+    _fields_ = [("next", FpDevice), ("reply", FpReply), ("reserved", c_uint8 * 5)]
 
 
 class FpReport(Structure):
@@ -94,6 +101,7 @@ BY_NAME = {
     "fp_spent_salts": FpSpentSalts,
     "fp_session": FpSession,
     "fp_stored": FpStored,
+    "fp_name": FpName,
     "fp_identity": FpIdentity,
     "fp_device": FpDevice,
     "fp_start": FpStart,

@@ -2,7 +2,7 @@
 
 from random import Random
 
-from reference.generator.random_values import account_key, different_keys, lent_output
+from reference.generator.random_values import account_key, different_keys, lent_output, lent_packet
 from reference.rules.aes import decrypt, encrypt
 from reference.rules.events import KeyBasedWrite, PowerOn
 from reference.rules.key_based import REQUEST
@@ -27,8 +27,10 @@ def one_block(random):
 
 def write(random, block, clock):
     """A write of this block on any link."""
-    link, secret, salt = random.randrange(8), random.randbytes(32), random.randbytes(9)
-    return KeyBasedWrite(link, clock, block, True, secret, salt, lent_output(random))
+    link, secret = random.randrange(8), random.randbytes(32)
+    salt, nonce = random.randbytes(9), random.randbytes(8)
+    outputs = lent_output(random), lent_packet(random)
+    return KeyBasedWrite(link, clock, block, True, secret, salt, nonce, *outputs)
 
 
 def listed(random):
@@ -37,7 +39,7 @@ def listed(random):
     keys = different_keys(random, random.randrange(4)) + [one[0], other[0]]
     random.shuffle(keys)
     public, ble = random.sample((one[1], other[1]), 2)
-    start = PowerOn(pack(keys), public, ble, random.randbytes(3), random.randbytes(2))
+    start = PowerOn(pack(keys), b"two keys fit", public, ble, random.randbytes(3), random.randbytes(2))
     return [start, *(write(random, block, clock) for clock in range(4))]
 
 

@@ -14,8 +14,10 @@ from .setup_error import exit_in_words
 
 # What has to be seen, or the test could not have failed.
 NEEDED = (
-    "partings",
+    "partings by a key",
+    "partings by a name",
     "keys stored in the second run",
+    "names taken in the second run",
     "only the second got 9",
     *map(after_marker, KINDS_ON_A_LINK),
 )

@@ -22,7 +22,8 @@
  * a marker: the queue holds EVENT_QUEUE_SLOTS - 1 events and a marker. */
 enum { EVENT_QUEUE_SLOTS = 16 };
 
-/* The longest write has 80 bytes. One more is kept, so that a longer write is still seen to be too long. */
+/* The longest request has 80 bytes, and so has the longest packet with a name. One more is kept, so that a longer write is
+ * still seen to be too long. */
 enum { EVENT_BYTES = 81 };
 
 typedef enum {
@@ -37,10 +38,12 @@ typedef enum {
     EVENT_CONFIRMATION_NEEDED,
     EVENT_PASSKEY_WRITE,
     EVENT_PAIRING_ENDED,
+    EVENT_NAME_WRITE,
     EVENT_ACCOUNT_KEY_WRITE
 } event_kind;
 
-/* One event. Salts and the secure element's result are not in it: the main loop makes them when it takes the event. */
+/* One event. Salts, nonces and the secure element's result are not in it: the main loop makes them when it takes the
+ * event. */
 typedef struct {
     event_kind kind;
     uint8_t link;

@@ -1,5 +1,5 @@
 /* Tests the event queue: its boundaries, and a pairing through it with the real library, whole and with a loss. Exit 1 if
- * a check failed. The salts are fixed, so that the responses can be compared; a product draws them.
+ * a check failed. The salts and the nonce are fixed, so that the responses can be compared; a product draws them.
  */
 #include "event_queue.h"
 #include "phone.h"
@@ -163,6 +163,7 @@ static void long_writes(void)
 static fp_device device;
 static fp_reply reply;            /* to the last event served */
 static uint8_t out[FP_RESPONSE_SIZE]; /* its response */
+static uint8_t packet[FP_PACKET_MAX]; /* its packet with the name */
 
 /* What a main loop does with an event that it took out. */
 static fp_outcome served(const event *e)
@@ -183,8 +184,8 @@ static fp_outcome served(const event *e)
     case EVENT_FACTORY_RESET:
         return fp_factory_reset(device, e->clock);
     case EVENT_KEY_BASED_WRITE:
-        return fp_key_based_write(device, e->link, e->clock, e->bytes, e->length, ELEMENT, RESPONSE_SALT, out,
-                                  sizeof out);
+        return fp_key_based_write(device, e->link, e->clock, e->bytes, e->length, ELEMENT, RESPONSE_SALT, NONCE, out,
+                                  sizeof out, packet, sizeof packet);
     case EVENT_PAIRING_STARTED:
         return fp_pairing_started(device, e->link, e->clock, e->value);
     case EVENT_CONFIRMATION_NEEDED:
@@ -193,6 +194,8 @@ static fp_outcome served(const event *e)
         return fp_passkey_write(device, e->link, e->clock, e->bytes, e->length, PASSKEY_SALT, out, sizeof out);
     case EVENT_PAIRING_ENDED:
         return fp_pairing_ended(device, e->link, e->clock, e->value);
+    case EVENT_NAME_WRITE:
+        return fp_name_write(device, e->link, e->clock, e->bytes, e->length);
     case EVENT_ACCOUNT_KEY_WRITE:
         break;
     }
@@ -217,7 +220,7 @@ static bool gets(event_kind kind, uint8_t answer)
 static bool powered_on(void)
 {
     empty_queue(0);
-    fp_outcome outcome = fp_power_on(fp_off(), EMPTY_LIST, sizeof EMPTY_LIST, START);
+    fp_outcome outcome = fp_power_on(fp_off(), EMPTY_LIST, sizeof EMPTY_LIST, MAKERS_NAME, sizeof MAKERS_NAME, START);
     device = outcome.next;
     return outcome.reply.answer == FP_TAKEN;
 }
@@ -242,9 +245,10 @@ static void put_request(void)
     put_write(EVENT_KEY_BASED_WRITE, 1200, REQUEST, sizeof REQUEST);
 }
 
-/* The rest of a pairing. */
+/* The rest of a pairing, with a name from the phone. */
 static void put_rest(void)
 {
+    put_write(EVENT_NAME_WRITE, 1250, NAME_WRITE, sizeof NAME_WRITE);
     put_event(EVENT_PAIRING_STARTED, 1300, DISPLAY_YES_NO);
     put_event(EVENT_CONFIRMATION_NEEDED, 1400, 0);
     put_write(EVENT_PASSKEY_WRITE, 1500, PASSKEY_BLOCK, sizeof PASSKEY_BLOCK);
@@ -252,9 +256,16 @@ static void put_rest(void)
     put_write(EVENT_ACCOUNT_KEY_WRITE, 1700, ACCOUNT_KEY_BLOCK, sizeof ACCOUNT_KEY_BLOCK);
 }
 
+/* Neither a key nor a name: the device's name is still the maker's. */
 static bool stored_nothing(void)
 {
-    return device.stored.length == sizeof EMPTY_LIST;
+    return device.stored.length == sizeof EMPTY_LIST && device.name.length == sizeof MAKERS_NAME &&
+           memcmp(device.name.bytes, MAKERS_NAME, sizeof MAKERS_NAME) == 0;
+}
+
+static bool named_by_the_phone(void)
+{
+    return device.name.length == sizeof PHONES_NAME && memcmp(device.name.bytes, PHONES_NAME, sizeof PHONES_NAME) == 0;
 }
 
 static bool request_gets_0(void)
@@ -266,9 +277,9 @@ static bool request_gets_0(void)
 /* The rest with the same answer to each event. */
 static bool rest_gets(uint8_t answer)
 {
-    return gets(EVENT_PAIRING_STARTED, answer) && gets(EVENT_CONFIRMATION_NEEDED, answer) &&
-           gets(EVENT_PASSKEY_WRITE, answer) && gets(EVENT_PAIRING_ENDED, answer) &&
-           gets(EVENT_ACCOUNT_KEY_WRITE, answer);
+    return gets(EVENT_NAME_WRITE, answer) && gets(EVENT_PAIRING_STARTED, answer) &&
+           gets(EVENT_CONFIRMATION_NEEDED, answer) && gets(EVENT_PASSKEY_WRITE, answer) &&
+           gets(EVENT_PAIRING_ENDED, answer) && gets(EVENT_ACCOUNT_KEY_WRITE, answer);
 }
 
 static void whole_pairing(void)
@@ -278,11 +289,15 @@ static void whole_pairing(void)
     put_request();
     put_rest();
     check(request_gets_0() && memcmp(out, RESPONSE, sizeof out) == 0, "the request gets 0, and the response expected");
+    check(reply.packet_length == sizeof NAME_PACKET && memcmp(packet, NAME_PACKET, sizeof NAME_PACKET) == 0,
+          "the name is sent, in the packet expected");
+    check(gets(EVENT_NAME_WRITE, FP_TAKEN) && named_by_the_phone(), "the phone's name is taken");
     check(gets(EVENT_PAIRING_STARTED, FP_TAKEN) && gets(EVENT_CONFIRMATION_NEEDED, FP_TAKEN) &&
               gets(EVENT_PASSKEY_WRITE, FP_TAKEN) && reply.confirm == FP_CONFIRM_YES &&
               memcmp(out, PASSKEY_RESPONSE, sizeof out) == 0,
           "the passkey is confirmed, with the response expected");
-    check(gets(EVENT_PAIRING_ENDED, FP_TAKEN) && gets(EVENT_ACCOUNT_KEY_WRITE, FP_TAKEN) && !stored_nothing(),
+    check(gets(EVENT_PAIRING_ENDED, FP_TAKEN) && gets(EVENT_ACCOUNT_KEY_WRITE, FP_TAKEN) &&
+              device.stored.length > sizeof EMPTY_LIST && named_by_the_phone(),
           "the account key is stored");
 
     uint8_t shown[FP_ADVERTISEMENT_MAX];
@@ -325,7 +340,8 @@ static void marker_in_its_place(void)
     check(device.sessions[LINK].stage == FP_STAGE_ASKED, "the link holds the request's key");
     put_rest();
     check(gets(EVENT_OVERFLOW, FP_TAKEN), "the marker comes next");
-    check(rest_gets(FP_LINK_IDLE) && stored_nothing(), "the pairing after the loss gets 9, and no key is stored");
+    check(rest_gets(FP_LINK_IDLE) && stored_nothing(),
+          "the pairing after the loss gets 9, no key is stored and no name taken");
 }
 
 /* What the queue does not do: the main loop hears of the loss and sends the marker at once. */
@@ -340,7 +356,8 @@ static void marker_sent_at_once(void)
     event in_its_place;
     check(event_queue_take(&queue, &in_its_place) && in_its_place.kind == EVENT_OVERFLOW,
           "the marker in its place is thrown away");
-    check(rest_gets(FP_TAKEN) && !stored_nothing(), "the pairing after the loss gets 0, and a key is stored");
+    check(rest_gets(FP_TAKEN) && named_by_the_phone() && device.stored.length > sizeof EMPTY_LIST,
+          "the pairing after the loss gets 0, a key is stored and a name taken");
 }
 
 /* Who does not know the place: a marker before every event and one at the end. */
@@ -355,7 +372,8 @@ static void marker_everywhere(void)
             right = serve(&marker) == FP_TAKEN && serve(&e) == FP_TAKEN && right;
     check(right && serve(&marker) == FP_TAKEN, "what was queued before the loss gets 0");
     put_rest();
-    check(rest_gets(FP_LINK_IDLE) && stored_nothing(), "the pairing after the loss gets 9, and no key is stored");
+    check(rest_gets(FP_LINK_IDLE) && stored_nothing(),
+          "the pairing after the loss gets 9, no key is stored and no name taken");
 }
 
 int main(void)

@@ -1,17 +1,19 @@
 /* A provider in C:
  *
- *     pairing FILE
+ *     pairing LIST NAME
  *
- * It powers on from the list in FILE (first boot if there is none), is paired by a phone, stores its account key, is
- * switched off and on again, serves the owner, meets a loss of events and prints its advertisement. Every answer is
- * printed with what it means. Exit 1 if one is not the answer expected, 2 if the program was called wrongly.
+ * It powers on from the list and the name in these two files (first boot if there are none), tells a phone its name, gets
+ * a new one, is paired by that phone, stores its account key, is switched off and on again, serves the owner, meets a
+ * loss of events and prints its advertisement. Every answer is printed with what it means. Exit 1 if one is not the answer
+ * expected, 2 if the program was called wrongly.
  *
- * The salts are random, so the responses are others in every run. event_queue_test.c compares them, with fixed salts.
+ * Salts and nonces are random, so the responses and packets are others in every run. event_queue_test.c has fixed ones and
+ * compares.
  */
 #define _DEFAULT_SOURCE /* explicit_bzero */
 
-#include "list_file.h"
 #include "phone.h"
+#include "saved_file.h"
 
 #include <errno.h>
 #include <stdio.h>
@@ -19,7 +21,7 @@
 #include <string.h>
 #include <sys/random.h>
 
-static const char *list_path;
+static const char *list_path, *name_path;
 static fp_device device;
 
 static void stop(const char *what, const char *why)
@@ -36,7 +38,7 @@ static const char *meaning(uint8_t answer)
     case FP_UNKNOWN_LINK:
         return "no such link: the table of connections is wrong";
     case FP_WRONG_LENGTH:
-        return "the request has not 16 or 80 bytes: ignored";
+        return "a request has 16 or 80 bytes, and a name write 16 to 80: ignored";
     case FP_PASSKEY_TOO_LARGE:
         return "our passkey has more than six digits: the radio is wrong";
     case FP_CLOCK_WENT_BACK:
@@ -60,7 +62,9 @@ static const char *meaning(uint8_t answer)
     case FP_OUTPUT_TOO_SHORT:
         return "our output is too short: a mistake in this program";
     case FP_LIST_MALFORMED:
-        return "the stored list is damaged";
+        return "the stored list or the name is damaged";
+    case FP_NAME_REFUSED:
+        return "a wrong tag, or not UTF-8: the old name stays";
     case FP_NOT_A_DEVICE:
         return "our device is none: memory went wrong, power on again";
     default:
@@ -87,21 +91,33 @@ static void draw(uint8_t *bytes, size_t length)
         stop("random bytes", strerror(errno));
 }
 
-static void save(const fp_stored *stored)
+static void save(const char *what, const char *path, const uint8_t *bytes, uint64_t length)
 {
-    if (!list_file_save(list_path, stored))
-        stop(list_path, strerror(errno));
-    printf("  list saved, %u bytes\n", (unsigned)stored->length);
+    if (!saved_file_save(path, bytes, length))
+        stop(path, strerror(errno));
+    printf("  %s saved, %u bytes\n", what, (unsigned)length);
 }
 
-/* What follows every event: its answer is told, a changed list is saved, and the next device replaces the old one. Gives
- * back the reply. */
+static void save_list(const fp_stored *stored)
+{
+    save("list", list_path, stored->bytes, stored->length);
+}
+
+static void save_name(const fp_name *name)
+{
+    save("name", name_path, name->bytes, name->length);
+}
+
+/* What follows every event: its answer is told, a changed list or name is saved, and the next device replaces the old one.
+ * Gives back the reply. */
 static fp_reply served(const char *event, fp_outcome outcome, uint8_t expected)
 {
     fp_reply reply = outcome.reply;
     tell(event, reply.answer);
     if (memcmp(&outcome.next.stored, &device.stored, sizeof device.stored) != 0)
-        save(&outcome.next.stored);
+        save_list(&outcome.next.stored);
+    if (memcmp(&outcome.next.name, &device.name, sizeof device.name) != 0)
+        save_name(&outcome.next.name);
     device = outcome.next;
     explicit_bzero(&outcome, sizeof outcome); /* a copy of every key */
     if (reply.answer != expected)
@@ -111,42 +127,65 @@ static fp_reply served(const char *event, fp_outcome outcome, uint8_t expected)
 
 /* ---- power-on */
 
-static uint8_t powered_on(const uint8_t *list, size_t length)
+/* What was saved: a list, or a name. There is room for one byte more than the longest, so that a longer file is seen to be
+ * too long. */
+typedef struct {
+    size_t length;
+    uint8_t bytes[FP_STORED_LIST_MAX + 1];
+} saved;
+
+/* The file's bytes, or the factory's if there is no file. */
+static saved loaded(const char *what, const char *path, const uint8_t *factory, size_t factory_length)
+{
+    saved bytes = {0};
+    saved_file_result result = saved_file_load(path, bytes.bytes, sizeof bytes.bytes, &bytes.length);
+    if (result == SAVED_FILE_FAILED)
+        stop(path, strerror(errno));
+    if (result == SAVED_FILE_MISSING) {
+        bytes.length = factory_length;
+        memcpy(bytes.bytes, factory, factory_length);
+    }
+    printf("%s %s, %zu bytes\n", what, result == SAVED_FILE_MISSING ? "of the factory" : "read", bytes.length);
+    return bytes;
+}
+
+static uint8_t powered_on(const char *event, const saved *list, const saved *name)
 {
     fp_start start = START;
     draw(start.salt, sizeof start.salt);
-    fp_outcome outcome = fp_power_on(fp_off(), list, length, start);
+    fp_outcome outcome = fp_power_on(fp_off(), list->bytes, list->length, name->bytes, name->length, start);
     uint8_t answer = outcome.reply.answer;
     device = outcome.next;
     explicit_bzero(&outcome, sizeof outcome);
+    tell(event, answer);
     return answer;
 }
 
 static void power_on(void)
 {
-    uint8_t list[LIST_FILE_MAX], answer;
-    size_t length = 0;
-    list_file_result result = list_file_load(list_path, list, &length);
-    if (result == LIST_FILE_FAILED)
-        stop(list_path, strerror(errno));
-    if (result == LIST_FILE_MISSING) {
-        printf("first boot\n");
-        answer = powered_on(EMPTY_LIST, sizeof EMPTY_LIST);
-    } else {
-        printf("list read, %zu bytes\n", length);
-        answer = powered_on(list, length);
-    }
-    explicit_bzero(list, sizeof list);
-    tell("power-on", answer);
+    static const saved no_name = {0};
+    saved no_keys = {.length = sizeof EMPTY_LIST};
+    memcpy(no_keys.bytes, EMPTY_LIST, sizeof EMPTY_LIST);
+    saved list = loaded("list", list_path, EMPTY_LIST, sizeof EMPTY_LIST);
+    saved name = loaded("name", name_path, MAKERS_NAME, sizeof MAKERS_NAME);
+    uint8_t answer = powered_on("power-on", &list, &name);
 
-    /* A product tries a second copy first. Without one the owners pair again. */
-    if (answer == FP_LIST_MALFORMED) {
-        answer = powered_on(EMPTY_LIST, sizeof EMPTY_LIST);
-        tell("power-on without keys", answer);
-        save(&device.stored);
-    }
+    /* The list is damaged, or the name, or both. A product tries second copies first. The owners pair again only if it was
+     * the list: the name is left out before it. */
+    bool damaged = answer == FP_LIST_MALFORMED;
+    if (answer == FP_LIST_MALFORMED)
+        answer = powered_on("power-on without name", &list, &no_name);
+    if (answer == FP_LIST_MALFORMED)
+        answer = powered_on("power-on without keys", &no_keys, &name);
+    if (answer == FP_LIST_MALFORMED)
+        answer = powered_on("power-on without both", &no_keys, &no_name);
+    explicit_bzero(&list, sizeof list);
     if (answer != FP_TAKEN)
         stop("power-on", meaning(answer));
+    if (damaged) {
+        save_list(&device.stored);
+        save_name(&device.name);
+    }
 }
 
 /* ---- events */
@@ -154,10 +193,26 @@ static void power_on(void)
 static void key_based_write(const char *event, uint64_t clock, const uint8_t *request, size_t length,
                             fp_element element)
 {
-    uint8_t salt[9], out[FP_RESPONSE_SIZE];
+    uint8_t salt[9], nonce[8], out[FP_RESPONSE_SIZE], packet[FP_PACKET_MAX];
     draw(salt, sizeof salt);
-    served(event, fp_key_based_write(device, LINK, clock, request, length, element, salt, out, sizeof out), FP_TAKEN);
+    draw(nonce, sizeof nonce);
+    fp_reply reply = served(event,
+                            fp_key_based_write(device, LINK, clock, request, length, element, salt, nonce, out,
+                                               sizeof out, packet, sizeof packet),
+                            FP_TAKEN);
     print_bytes("  response", out, sizeof out);
+
+    /* The phone asked for the name: a second notification, on the Additional Data characteristic. */
+    print_bytes("  packet with the name", packet, reply.packet_length);
+    if (reply.packet_length != 16 + device.name.length)
+        stop(event, "a packet with the whole name was expected");
+}
+
+static void name_write(uint64_t clock, uint8_t expected)
+{
+    served("name write", fp_name_write(device, LINK, clock, NAME_WRITE, sizeof NAME_WRITE), expected);
+    if (device.name.length != sizeof PHONES_NAME || memcmp(device.name.bytes, PHONES_NAME, sizeof PHONES_NAME) != 0)
+        stop("name write", "the phone's name was expected");
 }
 
 static void passkey_write(uint64_t clock)
@@ -178,6 +233,7 @@ static void paired_by_phone(void)
     served("pairing mode on", fp_pairing_mode(device, 1, 1000), FP_TAKEN);
     served("link up", fp_link_up(device, LINK, 1100), FP_TAKEN);
     key_based_write("key-based write", 1200, REQUEST, sizeof REQUEST, ELEMENT);
+    name_write(1250, FP_TAKEN);
     served("pairing started", fp_pairing_started(device, LINK, 1300, DISPLAY_YES_NO), FP_TAKEN);
     served("confirmation needed", fp_confirmation_needed(device, LINK, 1400, PASSKEY), FP_TAKEN);
     passkey_write(1500);
@@ -186,12 +242,13 @@ static void paired_by_phone(void)
            fp_account_key_write(device, LINK, 1700, ACCOUNT_KEY_BLOCK, sizeof ACCOUNT_KEY_BLOCK), FP_TAKEN);
 }
 
-/* Events were lost after the owner's request: the pairing that begins then is not joined to it. */
+/* Events were lost after the owner's request: what begins then is not joined to it. The phone's name was kept. */
 static void events_lost(void)
 {
     served("link up", fp_link_up(device, LINK, 1000), FP_TAKEN);
     key_based_write("owner's key-based write", 1100, OWNER_REQUEST, sizeof OWNER_REQUEST, (fp_element){0});
     served("overflow marker", fp_overflow(device), FP_TAKEN);
+    name_write(1150, FP_LINK_IDLE);
     served("pairing started", fp_pairing_started(device, LINK, 1200, DISPLAY_YES_NO), FP_LINK_IDLE);
 }
 
@@ -212,11 +269,12 @@ static void advertise(void)
 
 int main(int argc, char **argv)
 {
-    if (argc != 2) {
-        fprintf(stderr, "usage: pairing FILE\n");
+    if (argc != 3) {
+        fprintf(stderr, "usage: pairing LIST NAME\n");
         return 2;
     }
     list_path = argv[1];
+    name_path = argv[2];
     power_on();
     paired_by_phone();
 

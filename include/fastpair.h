@@ -5,7 +5,7 @@
  * the next one. Keep that, drop the old one:
  *
  *     fp_device device = fp_off();
- *     fp_outcome o = fp_power_on(device, list, list_length, start);
+ *     fp_outcome o = fp_power_on(device, list, list_length, name, name_length, start);
  *     device = o.next;
  *     if (o.reply.answer != FP_TAKEN) ...
  *
@@ -17,15 +17,15 @@
  * nothing to lent memory. The rules are in docs/RULES.md; that these functions keep them is proved.
  *
  * Memory: every pointer is lent for the call alone, and nothing is kept of it. A pointer with a length may be anything if
- * the length is 0. An output overlaps no input of the same call. A pointer to a fixed number of bytes, as salt[9], points
- * to that many. It is never null, also where the event is refused.
+ * the length is 0. An output overlaps no input and no other output of the same call. A pointer to a fixed number of bytes,
+ * as salt[9], points to that many. It is never null, also where the event is refused.
  *
  * Byte order: addresses and the model ID have their most significant byte first, as they are printed. The usual BLE
  * stacks hold addresses the other way round: turn them. With the wrong order no request fits: ten requests get 7, and
  * then every request gets 5 for five minutes.
  *
- * Salts: every salt that you hand in is fresh random bytes, drawn for this one call. Take them from a generator that is
- * fit for keys.
+ * Salts and nonces: every salt and every nonce that you hand in is fresh random bytes, drawn for this one call. Take them
+ * from a generator that is fit for keys. Of two names under one key and one nonce, a listener learns the difference.
  *
  * Clock: milliseconds in 64 bits. It never goes back while the device is on. Power-on sets the stored clock to 0, so
  * your counter may start again there. An event below the stored clock gets 4 and drops the key of every link. One huge
@@ -40,14 +40,27 @@
  * serve a ninth connection.
  *
  * GATT: acknowledge a refused write as any other, and send no notification. Fast Pair says to ignore such a write; an
- * error code would tell a stranger which check failed. With FP_TAKEN notify the response, if the event has one.
+ * error code would tell a stranger which check failed. With FP_TAKEN notify the response, if the event has one. If
+ * reply.packet_length is not 0, the phone asked for the device's name: after the response, notify that many bytes of
+ * `packet` on the Additional Data characteristic, FE2C1237-8366-4814-8EB0-01DE32100BEA. What a phone writes to that
+ * characteristic is a new name, for fp_name_write. A packet goes in one notification, so 80 bytes need an ATT MTU of 83.
  *
- * First boot: hand fp_power_on a list without keys, the four bytes 00 02 01 00. Begin with fp_off(): a device filled with
- * zeros is another value, its list is no list, and it gets 255.
+ * Name: the device holds a name of 0 to 64 bytes of UTF-8: whole characters, no overlong form, no surrogate, nothing above
+ * U+10FFFF. A zero byte is a character as any other and does not end the name. If an earlier product had longer names, do
+ * not cut one in the middle of a character: what is left would be no UTF-8.
+ *
+ * First boot: hand fp_power_on a list without keys, the four bytes 00 02 01 00, and the name that the maker gives the
+ * device, or an empty one (NULL, 0). Begin with fp_off(): a device filled with zeros is another value, its list is no
+ * list, and it gets 255.
  *
  * Saving: save the stored list when `next.stored` differs from the `stored` of the device before, and only then (memcmp
  * over the whole struct tells). Only an account key write and a factory reset change it. Save it before you serve the
  * next event, and so that a power cut leaves the old list or the new one.
+ *
+ * Save the name in the same way, and hand it in at power-on. It may have changed after an fp_name_write that got FP_TAKEN
+ * and after an fp_factory_reset that got FP_TAKEN, and after nothing else: compare `next.name` with what you saved last
+ * (memcmp over the whole struct tells). A factory reset leaves an empty name, and the maker's does not come back by itself:
+ * if you want it back, hand it in at the next power-on in place of an empty one.
  *
  * Secrets: an fp_device holds the session keys and the owners' account keys. Wipe every old copy that you leave, with a
  * function that the compiler does not remove (as explicit_bzero). The core does not wipe the stack that its calls used.
@@ -60,9 +73,9 @@
 #include <stdint.h>
 
 /* The version of this interface; docs/CHANGES.md says what changed. */
-#define FP_VERSION "4.0.0"
+#define FP_VERSION "4.1.0"
 #define FP_VERSION_MAJOR 4
-#define FP_VERSION_MINOR 0
+#define FP_VERSION_MINOR 1
 #define FP_VERSION_PATCH 0
 
 #ifdef __cplusplus
@@ -73,7 +86,7 @@ extern "C" {
 enum {
     FP_TAKEN = 0,
     FP_UNKNOWN_LINK = 1,        /* link above 7; nothing changes */
-    FP_WRONG_LENGTH = 2,        /* key-based write not 16 or 80 bytes; nothing changes */
+    FP_WRONG_LENGTH = 2,        /* key-based write not 16 or 80 bytes, or name write not 16 to 80; nothing changes */
     FP_PASSKEY_TOO_LARGE = 3,   /* our passkey above 999,999; nothing changes */
     FP_CLOCK_WENT_BACK = 4,     /* clock below the stored clock; every link's key is dropped, the clock stays: after one
                                    huge value every event gets this until power-on */
@@ -83,14 +96,19 @@ enum {
     FP_NO_KEY_FITS = 7,         /* no candidate fits; one more failure is counted. If every request gets this, look at the
                                    byte order of the addresses */
     FP_SALT_SPENT = 8,          /* a key fits, and the request's salt is one of the last 16 */
-    FP_LINK_IDLE = 9,           /* a pairing, passkey or account key event on an idle link. A link becomes idle 10,000 ms
-                                   after a request was accepted, after a confirmation was needed, and after a pairing
-                                   ended with success, if the next step did not come (9,999 ms is in time) */
-    FP_WRONG_STAGE = 10,        /* the link is in another stage than this event needs; its key is dropped */
+    FP_LINK_IDLE = 9,           /* a pairing, passkey, name or account key event on an idle link. A link becomes idle
+                                   10,000 ms after a request was accepted, after a confirmation was needed, and after a
+                                   pairing ended with success, if the next step did not come (9,999 ms is in time) */
+    FP_WRONG_STAGE = 10,        /* the link is in another stage than this event needs (a name write: it is paired); its
+                                   key is dropped */
     FP_CAPABILITY_REFUSED = 11, /* capability 3 or above 4; the link's key is dropped */
     FP_BAD_BLOCK = 12,          /* block not 16 bytes, or another first byte; the link's key is dropped */
-    FP_OUTPUT_TOO_SHORT = 13,   /* the lent output is too short; nothing changes */
-    FP_LIST_MALFORMED = 14,     /* stored list malformed; the device handed in comes back: see fp_power_on */
+    FP_OUTPUT_TOO_SHORT = 13,   /* a lent output is too short; nothing changes. A key-based write asks for 16 and 80 bytes
+                                   in every call */
+    FP_LIST_MALFORMED = 14,     /* at power-on: the stored list is malformed, or the name is none (above 64 bytes, not
+                                   UTF-8); the device handed in comes back: see fp_power_on */
+    FP_NAME_REFUSED = 15,       /* name write with a wrong tag, or with a name that is not UTF-8; the old name stays, and so
+                                   do the link's key, stage and timer */
     FP_NOT_A_DEVICE = 255       /* the fp_device handed in is none; it comes back as it was, nothing is written */
 };
 
@@ -111,6 +129,9 @@ enum { FP_LINKS = 8, FP_MAX_KEYS = 5, FP_MAX_SALTS = 16, FP_RESPONSE_SIZE = 16 }
 
 /* the longest stored list (five keys), and the longest advertisement (five keys): outputs of these sizes always do */
 enum { FP_STORED_LIST_MAX = 84, FP_ADVERTISEMENT_MAX = 18 };
+
+/* the longest name, and the longest packet with a name: a tag of 8 bytes, a nonce of 8, and the name encrypted */
+enum { FP_NAME_MAX = 64, FP_PACKET_MAX = 80 };
 
 /* ---- types */
 
@@ -149,6 +170,12 @@ typedef struct {
     uint8_t reserved[4];
 } fp_stored;
 
+/* The device's name, ready to be saved: the first `length` bytes, UTF-8; the others are zero. No zero byte ends it. */
+typedef struct {
+    uint64_t length;
+    uint8_t bytes[FP_NAME_MAX];
+} fp_name;
+
 /* What power-on fixes. */
 typedef struct {
     fp_address public_address;
@@ -158,17 +185,19 @@ typedef struct {
 /* A device: read it as you like, hand it in as you got it. It has no padding: no unused or reserved byte keeps
  * anything of a dropped key (an owner's key stays in `stored`), and equal devices are equal byte by byte.
  *
- * FP_NOT_A_DEVICE is the answer to a `stored` that is no stored list, more than 16 salts, a remembered salt of other than
- * 2 or 8 bytes, more than 10 failures, a stage above FP_STAGE_PAIRED and a `pairing` above 1. Any other bytes are served
- * by the rules as they stand. Not looked at, and zero in the device that comes back: the fields of an idle link, salts past
- * `count`, bytes of a salt past its length, bytes of the list past `length`, `failed_at` while `failures` is 0, and what
- * is reserved. With FP_NOT_A_DEVICE every byte comes back as it was. */
+ * FP_NOT_A_DEVICE is the answer to a `stored` that is no stored list, a `name` that is none (a length above 64, or not
+ * UTF-8), more than 16 salts, a remembered salt of other than 2 or 8 bytes, more than 10 failures, a stage above
+ * FP_STAGE_PAIRED and a `pairing` above 1. Any other bytes are served by the rules as they stand. Not looked at, and zero
+ * in the device that comes back: the fields of an idle link, salts past `count`, bytes of a salt, of the list and of the
+ * name past their lengths, `failed_at` while `failures` is 0, and what is reserved. With FP_NOT_A_DEVICE every byte comes
+ * back as it was. */
 typedef struct {
     uint64_t clock;
     fp_session sessions[FP_LINKS];
     fp_spent_salts spent;
     uint64_t failed_at;  /* the moment of the last counted failure */
     fp_stored stored;
+    fp_name name;
     fp_identity identity;
     fp_address ble;
     uint8_t salt[2];     /* of the advertised filter */
@@ -177,7 +206,7 @@ typedef struct {
     uint8_t reserved[5];
 } fp_device;
 
-/* What power-on is given besides the stored list. */
+/* What power-on is given besides the stored list and the name. */
 typedef struct {
     fp_identity identity;
     fp_address ble;
@@ -190,18 +219,20 @@ typedef struct {
     fp_address address;
 } fp_bond;
 
-/* All that an answer hands out. `tried` is the number of account keys (or the one shared key) that were tried. */
+/* All that an answer hands out. `tried` is the number of account keys (or the one shared key) that were tried.
+ * `packet_length` is 16 to 80 if a key-based write left a packet with the name of that length, and 0 if there is none. */
 typedef struct {
     uint8_t answer;
     uint8_t tried;
     uint8_t confirm;
+    uint8_t packet_length;
     fp_bond bond;
 } fp_reply;
 
 typedef struct {
     fp_device next;
     fp_reply reply;
-    uint8_t reserved[6];
+    uint8_t reserved[5];
 } fp_outcome;
 
 /* FP_TAKEN and the number of bytes written, or FP_OUTPUT_TOO_SHORT (or FP_NOT_A_DEVICE) and 0. */
@@ -230,25 +261,32 @@ typedef struct {
 FP_LAYOUT(sizeof(fp_session) == 32 && offsetof(fp_session, key) == 13);
 FP_LAYOUT(sizeof(fp_spent_salts) == 152 && offsetof(fp_spent_salts, count) == 144);
 FP_LAYOUT(sizeof(fp_stored) == 96 && offsetof(fp_stored, bytes) == 8);
-FP_LAYOUT(sizeof(fp_device) == 544 && offsetof(fp_device, spent) == 264 && offsetof(fp_device, failures) == 538);
+FP_LAYOUT(sizeof(fp_name) == 72 && offsetof(fp_name, bytes) == 8);
+FP_LAYOUT(sizeof(fp_device) == 616 && offsetof(fp_device, spent) == 264);
+FP_LAYOUT(offsetof(fp_device, name) == 520 && offsetof(fp_device, failures) == 610);
 FP_LAYOUT(sizeof(fp_start) == 17 && sizeof(fp_element) == 33 && sizeof(fp_bond) == 7);
-FP_LAYOUT(sizeof(fp_reply) == 10 && sizeof(fp_outcome) == 560 && sizeof(fp_report) == 16);
+FP_LAYOUT(sizeof(fp_reply) == 11 && offsetof(fp_reply, packet_length) == 3 && offsetof(fp_reply, bond) == 4);
+FP_LAYOUT(sizeof(fp_outcome) == 632 && sizeof(fp_report) == 16);
 #undef FP_LAYOUT
 #endif
 
 /* ---- power-on and what concerns no single link */
 
-/* The value before any device was made: zeros, and the empty list 00 02 01 00 of length 4 in `stored`. A device filled
- * with zeros has no such list: every call gives it 255. */
+/* The value before any device was made: zeros, so an empty name too, and the empty list 00 02 01 00 of length 4 in
+ * `stored`. A device filled with zeros has no such list: every call gives it 255. */
 fp_device fp_off(void);
 
-/* Starts from the stored list as fp_stored_list wrote it; at first boot that is 00 02 01 00. The clock becomes 0, and
- * start.salt is two fresh random bytes. FP_TAKEN, FP_LIST_MALFORMED or FP_NOT_A_DEVICE.
+/* Starts from the stored list as fp_stored_list wrote it, and from the name as it was saved: `name_length` bytes, 0 to 64.
+ * At first boot these are 00 02 01 00 and the maker's name or none. The clock becomes 0, and start.salt is two fresh random
+ * bytes. FP_TAKEN, FP_LIST_MALFORMED or FP_NOT_A_DEVICE.
  *
  * After FP_LIST_MALFORMED no device was made, and the one handed in comes back. Serve no events with fp_off(). The same
- * list gets the same answer again: try a second copy if you keep one. If none reads, power on with 00 02 01 00 and save
- * that. The owners' keys are lost then, and they pair again. */
-fp_outcome fp_power_on(fp_device device, const uint8_t *stored, size_t stored_length, fp_start start);
+ * bytes get the same answer again: try a second copy if you keep one. It may be the list or the name. Try the list with an
+ * empty name (NULL, 0) first: if that is taken, only the name was bad. Else the list is bad: power on with 00 02 01 00 and
+ * the name, and at last with 00 02 01 00 and an empty name, which is always taken. Save what was taken. With the list the
+ * owners' keys are lost, and they pair again. */
+fp_outcome fp_power_on(fp_device device, const uint8_t *stored, size_t stored_length, const uint8_t *name,
+                       size_t name_length, fp_start start);
 
 /* Events were lost: every link's key is dropped. FP_TAKEN for every device.
  *
@@ -269,8 +307,8 @@ fp_outcome fp_pairing_mode(fp_device device, uint8_t on, uint64_t clock);
 /* A new BLE address, and with it the new salt of the advertised filter: two random bytes, fresh at every rotation. */
 fp_outcome fp_address_rotated(fp_device device, fp_address ble, const uint8_t salt[2], uint64_t clock);
 
-/* Forgets the owners' keys, the spent salts, the failures and every link's key. With FP_TAKEN save the stored list if it
- * changed. */
+/* Forgets the owners' keys, the spent salts, the failures, every link's key and the name, which is empty then. With
+ * FP_TAKEN save the stored list if it changed, and the name if it changed. */
 fp_outcome fp_factory_reset(fp_device device, uint64_t clock);
 
 /* ---- events on a link, 0 to 7; `clock` is in milliseconds and never goes back while the device is on */
@@ -279,12 +317,28 @@ fp_outcome fp_factory_reset(fp_device device, uint64_t clock);
 fp_outcome fp_link_up(fp_device device, uint8_t link, uint64_t clock);
 fp_outcome fp_link_down(fp_device device, uint8_t link, uint64_t clock);
 
-/* A write to the key-based pairing characteristic. `salt` is nine random bytes for the response, fresh at every call.
+/* A write to the key-based pairing characteristic. `salt` is nine random bytes for the response and `nonce` eight for the
+ * packet, fresh at every call, also if no name is sent.
+ *
  * With FP_TAKEN the response's 16 bytes stand at the front of `out`, and "pairing started" has to come in less than
- * 10,000 ms. Ten requests in a row that no key fits get 7. All requests then get 5, until 300,000 ms after the tenth. */
+ * 10,000 ms. If the phone asked for the name (flag 0x20), the packet stands at the front of `packet`, and
+ * reply.packet_length is its length: 16 and the name's length. Notify `out` first and then the packet, on the Additional
+ * Data characteristic. If it did not ask, and with every other answer, reply.packet_length is 0 and `packet` is untouched.
+ *
+ * The outputs need FP_RESPONSE_SIZE and FP_PACKET_MAX bytes, in every call: else 13. They do not overlap.
+ *
+ * Ten requests in a row that no key fits get 7. All requests then get 5, until 300,000 ms after the tenth. */
 fp_outcome fp_key_based_write(fp_device device, uint8_t link, uint64_t clock, const uint8_t *request,
-                              size_t request_length, fp_element element, const uint8_t salt[9], uint8_t *out,
-                              size_t out_length);
+                              size_t request_length, fp_element element, const uint8_t salt[9], const uint8_t nonce[8],
+                              uint8_t *out, size_t out_length, uint8_t *packet, size_t packet_length);
+
+/* A write to the Additional Data characteristic: a packet with a new name, under the link's key. It may come from an
+ * accepted request to the end of the pairing, and more than once. FP_TAKEN and FP_NAME_REFUSED leave the link's key, stage
+ * and timer as they are. An idle link gets 9. After a pairing that ended with success it gets 10.
+ *
+ * With FP_TAKEN the name is next.name: save it if it changed. A packet of 16 bytes makes it empty. There is no response to
+ * notify. */
+fp_outcome fp_name_write(fp_device device, uint8_t link, uint64_t clock, const uint8_t *packet, size_t packet_length);
 
 /* The phone asked to pair; `capability` is its IO capability byte. No timer runs until a confirmation is needed. */
 fp_outcome fp_pairing_started(fp_device device, uint8_t link, uint64_t clock, uint8_t capability);

@@ -6,6 +6,7 @@ NAMES = (
     "BLE",
     "bytes",
     "capability",
+    "changed byte",
     "clock",
     "filter salt",
     "flags",
@@ -15,10 +16,13 @@ NAMES = (
     "link",
     "list",
     "model",
+    "name",
     "names",
+    "nonce",
     "passkey",
     "public",
     "salt",
+    "second lent",
     "seeker",
     "times",
     "type",
@@ -28,15 +32,17 @@ NAMES = (
 MOST = {
     "account key": 15,
     "capability": 2**8 - 1,
+    "changed byte": 79,
     "clock": 2**64 - 1,
     "length": 512,
     "lent": 512,
     "link": 2**8 - 1,
     "passkey": 2**32 - 1,
+    "second lent": 512,
     "times": 1000,
 }
 # Fields without a value.
-BARE = ("failure", "no keys", "no list", "point rejected", "prompt hidden", "prompt shown", "success")
+BARE = ("failure", "no keys", "no list", "no name", "point rejected", "prompt hidden", "prompt shown", "success")
 
 
 class TextError(Exception):
@@ -73,6 +79,10 @@ class Fields:
 
     def sized_bytes(self, name, size, default=None):
         return as_bytes(name, self.text(name, default), size)
+
+    def name(self):
+        """The bytes of a name."""
+        return b"" if self.bare("no name") else as_name(self.text("name"))
 
     def bare(self, name):
         """Whether this field without a value is there."""
@@ -113,6 +123,12 @@ def as_bytes(name, value, size=None):
     if size is not None and len(data) != size:
         raise TextError(f"{name} '{value}' has to have {size} bytes")
     return data
+
+
+def as_name(value):
+    """A name: its text in quotation marks, or its bytes in hexadecimal."""
+    quoted = len(value) > 1 and value[0] == value[-1] == '"'
+    return value[1:-1].encode() if quoted else from_hexadecimal("name", value)
 
 
 def from_hexadecimal(name, value):

@@ -12,14 +12,16 @@ from .names import (
     ADDRESSES,
     FILTER_SALT,
     MODEL,
+    NONCE,
     PASSKEY_SALT,
     REQUEST_SALT,
     ROOM,
     SECRET,
     key_named,
     lent,
+    second_lent,
 )
-from .phone_writes import account_key_data, passkey_data, request_data
+from .phone_writes import account_key_data, name_data, passkey_data, request_data
 
 
 @dataclass(frozen=True)
@@ -38,6 +40,11 @@ class PayloadAsked:
 
 
 @dataclass(frozen=True)
+class NameAsked:
+    """The name that the device shows."""
+
+
+@dataclass(frozen=True)
 class BroughtTo:
     """The events that bring a link to a stage; each of them has to be taken."""
 
@@ -50,10 +57,6 @@ class Repeated:
 
     event: object
     times: int
-
-    @property
-    def out(self):
-        return getattr(self.event, "out", b"")
 
 
 def asked(text):
@@ -78,10 +81,12 @@ def kind_and_fields(text):
 
 def power_on(fields):
     stored = stored_list(fields)
+    name = fields.name() if fields.has("name") or fields.has("no name") else b""
     public = fields.sized_bytes("public", 6, ADDRESSES["public"])
     ble = new_ble(fields) if fields.has("BLE") else ADDRESSES["BLE 1"]
     model = fields.sized_bytes("model", 3, MODEL)
-    return events.PowerOn(stored, public, ble, model, fields.sized_bytes("filter salt", 2, FILTER_SALT))
+    filter_salt = fields.sized_bytes("filter salt", 2, FILTER_SALT)
+    return events.PowerOn(stored, name, public, ble, model, filter_salt)
 
 
 def stored_list(fields):
@@ -137,8 +142,10 @@ def factory_reset(fields):
 def key_based_write(fields):
     link, clock = link_and_clock(fields)
     accepted = not fields.bare("point rejected")
+    brought = accepted, SECRET, REQUEST_SALT, fields.sized_bytes("nonce", 8, NONCE)
     data, out = request_data(fields), output(fields)
-    return events.KeyBasedWrite(link, clock, data, accepted, SECRET, REQUEST_SALT, out)
+    second = second_lent(fields.number("second lent", ROOM))
+    return events.KeyBasedWrite(link, clock, data, *brought, out, second)
 
 
 def passkey_write(fields):
@@ -148,6 +155,10 @@ def passkey_write(fields):
 
 def account_key_write(fields):
     return events.AccountKeyWrite(*link_and_clock(fields), account_key_data(fields))
+
+
+def name_write(fields):
+    return events.NameWrite(*link_and_clock(fields), name_data(fields))
 
 
 def output(fields):
@@ -192,6 +203,10 @@ def payload_asked(fields):
     return PayloadAsked(fields.either("prompt hidden", "prompt shown"), output(fields))
 
 
+def name_asked(fields):
+    return NameAsked()
+
+
 KINDS = {
     "power-on": power_on,
     "overflow marker": overflow_marker,
@@ -207,7 +222,9 @@ KINDS = {
     "passkey write": passkey_write,
     "pairing ended": pairing_ended,
     "account key write": account_key_write,
+    "name write": name_write,
     **{f"brought to {stage.value}": partial(brought_to, stage.value) for stage in Stage},
     "stored list": stored_list_asked,
     "payload": payload_asked,
+    "name": name_asked,
 }

@@ -25,6 +25,10 @@ REQUEST_SALT = bytes(range(0x51, 0x5A))
 PASSKEY_SALT = bytes(range(0x61, 0x6D))
 SEEKER_SALT = bytes(range(0x71, 0x7D))
 
+# The nonce that comes with a request, and that of a seeker's packet, if its line does not say otherwise.
+NONCE = bytes(range(0x31, 0x39))
+SEEKER_NONCE = bytes(range(0x21, 0x29))
+
 # The room of a lent output, if its line does not say otherwise: more than anything that is written.
 ROOM = 90
 
@@ -37,6 +41,11 @@ def account_key(digit):
 def lent(size):
     """What a lent output holds beforehand."""
     return bytes(0x80 + place % 128 for place in range(size))
+
+
+def second_lent(size):
+    """The same of the second lent output."""
+    return bytes(0xFF - place % 128 for place in range(size))
 
 
 # The keys that a phone can encrypt with.

@@ -3,7 +3,7 @@
 from reference.generator import seeker_blocks
 
 from .fields import TextError, as_bytes
-from .names import ADDRESSES, PUBLIC_KEY, SEEKER_SALT, key_named
+from .names import ADDRESSES, PUBLIC_KEY, SEEKER_NONCE, SEEKER_SALT, key_named
 
 # A seeker's passkey has 3 bytes.
 MOST_PASSKEY = 2**24 - 1
@@ -49,6 +49,25 @@ def account_key_data(fields):
     kind = fields.sized_bytes("type", 1, new[:1])
     block = seeker_blocks.account_key_block(key_named(fields.text("with")), kind + new[1:])
     return resized(fields, block, 16)
+
+
+def name_data(fields):
+    """The packet with a name."""
+    if fields.has("bytes"):
+        return fields.bytes("bytes")
+    key, nonce = key_named(fields.text("with")), fields.sized_bytes("nonce", 8, SEEKER_NONCE)
+    packet = changed(fields, seeker_blocks.name_packet(key, nonce, fields.name()))
+    return resized(fields, packet, len(packet))
+
+
+def changed(fields, data):
+    """The data with the lowest bit of a byte changed, if the line says so."""
+    if not fields.has("changed byte"):
+        return data
+    place = fields.number("changed byte")
+    if place >= len(data):
+        raise TextError(f"there is no byte {place} to change")
+    return data[:place] + bytes([data[place] ^ 1]) + data[place + 1 :]
 
 
 def resized(fields, data, size):

@@ -2,49 +2,71 @@
 
 from dataclasses import dataclass
 
-from reference.rules.events import Reply
+from reference.rules.events import Reply, lent_outputs
 
-from .fields import TextError, as_bytes, as_number
-from .lines import PayloadAsked, StoredListAsked
+from .fields import TextError, as_bytes, as_name, as_number
+from .lines import NameAsked, PayloadAsked, Repeated, StoredListAsked
 
 REPLIES = {True: "yes", False: "no"}
+NO_NAME = "no name"
+PARTS = {"tried", "bonding", "reply", "writes", "packet"}
 
 
 @dataclass(frozen=True)
 class Result:
-    """The reply, with the whole lent output afterwards, and how many bytes of it were written."""
+    """The reply, with the whole lent outputs afterwards, and how many bytes of the first were written."""
 
     reply: Reply
     written: int = 0
 
 
 def in_words(result, asked):
-    """What is not said is nothing: no key tried, no address, no reply, an output as it was."""
+    """What is not said is nothing: no key tried, no address, no reply, outputs as they were."""
     reply = result.reply
+    if isinstance(asked, NameAsked):
+        return name_in_words(reply.out)
     words = [str(reply.answer)]
     words += [f"tried {reply.tried}"] if reply.tried else []
     words += [f"bonding {reply.bond.hex()}"] if reply.bond else []
     words += [f"reply {REPLIES[reply.confirm]}"] if reply.confirm is not None else []
     words += [f"writes {grouped(reply.out[: result.written], asked)}"] if result.written else []
+    words += [f"packet {packet_in_words(reply)}"] if reply.packet_length else []
     return ", ".join(words)
+
+
+def packet_in_words(reply):
+    """Tag, nonce and data."""
+    return parts(reply.packet[: reply.packet_length], (8, 8, 64))
+
+
+def name_in_words(name):
+    """Its text if that has Latin letters alone and can be read again, else its bytes."""
+    text = name.decode(errors="replace")
+    latin = text.isprintable() and all(character < "\u0100" for character in text)
+    readable = latin and ", " not in text and "->" not in text
+    return (f'"{text}"' if readable else name.hex()) if name else NO_NAME
 
 
 def from_words(text, asked):
     """The result that the words say, for this event or question."""
+    if isinstance(asked, NameAsked):
+        return Result(Reply(0, out=b"" if text == NO_NAME else as_name(text)))
     answer, *rest = text.split(", ")
     values = dict(word.split(" ", 1) for word in rest if " " in word)
-    if len(values) != len(rest) or set(values) - {"tried", "bonding", "reply", "writes"}:
+    if len(values) != len(rest) or set(values) - PARTS:
         raise TextError(f"'{text}' is no result")
     reply, confirm = values.get("reply"), {None: None, "yes": True, "no": False}
     if reply not in confirm:
         raise TextError(f"reply '{reply}' is neither yes nor no")
     bond = as_bytes("bonding", values["bonding"], 6) if "bonding" in values else None
     written = as_bytes("writes", values.get("writes", ""))
-    lent = getattr(asked, "out", b"")
+    packet = as_bytes("packet", values.get("packet", ""))
+    out, second = lent_outputs(asked.event if isinstance(asked, Repeated) else asked)
     # "Bytes past those written stay."
-    out = written + lent[len(written) :]
+    outputs = written + out[len(written) :], len(packet), packet + second[len(packet) :]
     tried = as_number("tried", values.get("tried", 0))
-    return Result(Reply(as_number("answer", answer), tried, bond, confirm[reply], out), len(written))
+    found = Reply(as_number("answer", answer), tried, bond, confirm[reply], *outputs)
+    return Result(found, len(written))
 
 
 def grouped(data, asked):

@@ -24,8 +24,14 @@ class Difference:
             return f"the text has no result; found: {found}"
         expected = in_words(self.line.result, self.line.asked)
         if expected == found:
-            return f"{found}, but the lent output holds {self.found.reply.out.hex()}"
+            return f"{found}, but {outputs(self.found.reply)}"
         return f"the text says: {expected}; found: {found}"
+
+
+def outputs(reply):
+    """What the lent outputs hold, in words."""
+    first = f"the lent output holds {reply.out.hex()}"
+    return f"{first} and the second one {reply.packet.hex()}" if reply.packet else first
 
 
 def first_difference(text, side):

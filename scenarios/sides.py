@@ -7,7 +7,7 @@ from reference.rules.events import LENDING, PowerOn, Reply
 from reference.rules.model import RESPONSE_SIZE
 
 from .fields import TextError
-from .lines import BroughtTo, PayloadAsked, Repeated, StoredListAsked
+from .lines import BroughtTo, NameAsked, PayloadAsked, Repeated, StoredListAsked
 from .results import Result
 
 
@@ -62,6 +62,8 @@ class SecondProgram(Side):
             return self.written(self.rules.stored_list(self.device), asked.out)
         if isinstance(asked, PayloadAsked):
             return self.written(self.rules.advertisement(self.device, asked.hide), asked.out)
+        if isinstance(asked, NameAsked):
+            return Result(Reply(0, out=self.device.name))
         self.device, reply = self.rules.step(self.device, asked)
         return event_result(asked, reply)
 
@@ -83,6 +85,9 @@ class BuiltLibrary(Side):
         if isinstance(asked, PayloadAsked):
             report = self.library.advertisement(self.device, int(asked.hide), asked.out)
             return report_result(report)
+        if isinstance(asked, NameAsked):
+            name = self.device.name
+            return Result(Reply(0, out=bytes(name.bytes[: name.length])))
         self.device, reply = self.library.step(self.device, asked)
         return event_result(asked, reply)
 

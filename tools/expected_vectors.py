@@ -1,12 +1,14 @@
 #!/usr/bin/env python3
 """What the program `vectors` must print, computed by other implementations.
 
-SHA-256 comes from Python's hashlib and AES-128 from the command `openssl`; the payloads of published
-keys are computed by document 01's formulas. A result that a document publishes stands here too, and must
-equal what was computed. None of this reads our code. Without an option it writes crates/vectors/stdout.
+SHA-256 and HMAC-SHA256 come from Python's hashlib and hmac, AES-128 from the command `openssl`; the
+payloads of published keys are computed by document 01's formulas. A result that a document publishes
+stands here too, and must equal what was computed. None of this reads our code. Without an option it
+writes crates/vectors/stdout.
 """
 import argparse
 import hashlib
+import hmac
 import pathlib
 import shutil
 import struct
@@ -52,7 +54,7 @@ def main():
 
 
 def all_lines():
-    return hash_lines() + cipher_lines() + fast_pair_lines() + filter_lines()
+    return hash_lines() + hmac_lines() + cipher_lines() + fast_pair_lines() + packet_lines() + filter_lines()
 
 
 def check(text):
@@ -73,6 +75,18 @@ def hash_lines():
     ]
     pattern = bytes((7 * i + 3) % 256 for i in range(4000))
     return lines + [(f"SHA-256 of {n} bytes", sha256(pattern[:n])) for n in (55, 56, 63, 64, 65, 119, 120, 4000)]
+
+
+# RFC 4231, the test cases whose keys are shorter than a block; of case 5 it prints the first 128 bits.
+def hmac_lines():
+    cases = (
+        (b"\x0b" * 20, b"Hi There", "b0344c61d8db38535ca8afceaf0bf12b881dc200c9833da726e9376c2e32cff7"),
+        (b"Jefe", b"what do ya want for nothing?", "5bdcc146bf60754e6a042426089575c75a003f089d2739839dec58b964ec3843"),
+        (b"\xaa" * 20, b"\xdd" * 50, "773ea91e36800e46854db8ebd09181a72959098b3ef8c122d9635514ced565fe"),
+        (bytes(range(1, 26)), b"\xcd" * 50, "82558a389a443c0ea4cc819899f2083a85f0faa3e578f8077a2e3ff46729665b"),
+        (b"\x0c" * 20, b"Test With Truncation", "a3b6167473100ee06e0c796c2955552b"),
+    )
+    return [(f"RFC 4231 case {n}", hmac_sha256(*case)) for n, case in enumerate(cases, 1)]
 
 
 # FIPS 197, appendices A.1, B and C.1.
@@ -98,7 +112,59 @@ def fast_pair_lines():
         "a0baf0bb951ff7b6cf5e3f4561c3321d",
         "f30f4e786c59a7bbf3873b5a49ba97ea",
         "ac9a16f0953a3f223dd10cf536e09e9c",
-    ) + [("Fast Pair SHA-256 of the ECDH secret", hashed), ("Fast Pair anti-spoofing AES key", hashed[:32])]
+    ) + [
+        ("Fast Pair SHA-256 of the ECDH secret", hashed),
+        ("Fast Pair anti-spoofing AES key", hashed[:32]),
+        ("Fast Pair HMAC-SHA256", hmac_sha256(K + bytes(48), NONCE + CIPHERTEXT, "55ec5e6055af6e92")),
+    ]
+
+
+# The Fast Pair specification's name, with its session key and nonce.
+K = bytes.fromhex("0123456789abcdef0123456789abcdef")
+NONCE = bytes.fromhex("0001020304050607")
+NAME = b"Someone's Google Headphone"
+CIPHERTEXT = bytes.fromhex("ee4a2483738052e44e9b2a145e5ddfaa44b9e5536af438e1e5c6")
+
+
+# Packets of names, each shown in an output of 80 bytes EE, and the name in a room of 64 bytes; then packets with one bit changed.
+def packet_lines():
+    published(counter_mode(NAME).hex(), CIPHERTEXT.hex())
+    letters = bytes(ord("a") + i % 26 for i in range(64))
+    lines = sealed_lines("Fast Pair packet", NAME) + sealed_lines("packet of 0 bytes", b"") + sealed_lines("packet of 1 byte", b"a")
+    for n in (15, 16, 17, 63, 64):
+        lines += sealed_lines(f"packet of {n} bytes", letters[:n])
+    places = (("first byte of the tag", 0), ("last byte of the tag", 7), ("nonce", 15), ("last byte", 41))
+    return lines + [(f"Fast Pair packet, {name} changed", f"{opens(changed(packet(NAME), at)):02x}") for name, at in places]
+
+
+def sealed_lines(name, text):
+    if not opens(packet(text)):
+        sys.exit(f"{name}: the packet does not open")
+    return [(name, packet(text).ljust(80, b"\xee").hex()), ("name read from it", text.ljust(64, b"\0").hex())]
+
+
+# Document 02 (i): the first 8 bytes of HMAC-SHA256 over nonce and ciphertext, the nonce, the data under the counter mode.
+def packet(text):
+    return signed(NONCE + counter_mode(text))
+
+
+def signed(message):
+    return hmac.digest(K + bytes(48), message, "sha256")[:8] + message
+
+
+# Source document 004: each block of 16 bytes, and AES of its number in one byte, seven zero bytes and the nonce.
+def counter_mode(text):
+    blocks = ((bytes([i]) + bytes(7) + NONCE).hex() for i in range((len(text) + 15) // 16))
+    stream = bytes.fromhex("".join(openssl_aes("-e", K.hex(), block) for block in blocks))
+    return bytes(a ^ b for a, b in zip(text, stream))
+
+
+def opens(data):
+    return data == signed(data[8:])
+
+
+def changed(data, at):
+    return data[:at] + bytes([data[at] ^ 1]) + data[at + 1:]
 
 
 # Document 01, "Advertising", with the model and salt of its samples: published keys, shown in an output of 24 bytes EE.
@@ -148,6 +214,13 @@ def block_lines(name, key, plain, cipher):
 
 def sha256(message, document=None):
     return published(hashlib.sha256(message).hexdigest(), document)
+
+
+# The document may print the first bytes alone.
+def hmac_sha256(key, message, document):
+    computed = hmac.digest(key, message, "sha256").hex()
+    published(computed[:len(document)], document)
+    return computed
 
 
 # What was computed, once it is known to be what the document prints, if it prints one.

@@ -11,8 +11,11 @@ FIRST = {
     "clock": ("stage_timers", "lockout"),
     "control": ("overflow_marker", "power_on", "factory_reset", "pairing_mode", "address_rotation", "links"),
     "device": ("links", "five_keys"),
-    "key_based": ("fitting_requests", "keys_tried", "request_flags", "remembered_salts", "lockout"),
+    "key_based": ("personalized_name", "fitting_requests", "keys_tried", "request_flags", "remembered_salts", "lockout"),
     "pairing": ("pairing_stages", "passkey", "account_keys", "capability"),
+    "name": ("name_write_stages", "name_packets", "utf8_names"),
+    "name_packet": ("personalized_name", "name_packets"),
+    "utf8": ("utf8_names",),
     "stored_list": ("malformed_lists", "stored_lists"),
     "advertising": ("payloads",),
     "lent_output": ("stored_lists", "payloads"),
@@ -62,7 +65,7 @@ def step_shown(rules, device, event):
         return device, (reply,)
     payloads = (rules.advertisement(device, hide) for hide in (False, True))
     texts = rules.stored_list(device), *payloads
-    return device, (reply, *(written(rules, text) for text in texts))
+    return device, (reply, device.name, *(written(rules, text) for text in texts))
 
 
 def written(rules, text):

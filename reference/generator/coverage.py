@@ -5,7 +5,7 @@ from collections import Counter
 from ..rules.device import Stage
 from ..rules.events import KINDS
 
-ANSWERS = range(15)
+ANSWERS = range(16)
 
 
 class Coverage:

@@ -53,6 +53,10 @@ def malformed_list(random, device, history, clock):
     return power_on_events.malformed(random, device, history)
 
 
+def bad_name(random, device, history, clock):
+    return power_on_events.bad_name(random, device, history)
+
+
 EVENTS = {
     "link up": link_up,
     "link down": link_down,
@@ -63,4 +67,5 @@ EVENTS = {
     "reset": reset,
     "power-on": power_on,
     "malformed list": malformed_list,
+    "bad name": bad_name,
 }

@@ -2,6 +2,7 @@
 
 from dataclasses import replace
 
+from ..rules.events import NameWrite
 from .clocks import earlier
 from .random_values import resized
 
@@ -26,6 +27,14 @@ def wrong_size(random, device, data):
     return resized(random, data, WRONG_SIZES)
 
 
+def short_second_output(random, device, packet):
+    return packet[: random.choice((0, 16, 79))]
+
+
+def wrong_packet_size(random, device, packet):
+    return resized(random, packet, (0, 15, 81))
+
+
 def large_passkey(random, device, passkey):
     return random.choice(LARGE_PASSKEYS)
 
@@ -37,13 +46,19 @@ FAULTS = {
     "block": wrong_size,
     "passkey": large_passkey,
     "out": short_output,
+    "packet": short_second_output,
     "clock": earlier_clock,
 }
 
 
+# The packet of a name write is no output.
+NAME_WRITE_FAULTS = {**FAULTS, "packet": wrong_packet_size}
+
+
 def with_faults(random, device, event):
     """The event with about half of the faults that it can have."""
-    for field, fault in FAULTS.items():
+    faults = NAME_WRITE_FAULTS if isinstance(event, NameWrite) else FAULTS
+    for field, fault in faults.items():
         if hasattr(event, field) and random.random() < 0.5:
             event = replace(event, **{field: fault(random, device, getattr(event, field))})
     return event

@@ -6,7 +6,7 @@ from random import Random
 from ..rules.device import Stage, hold
 from ..rules.events import FactoryReset, PairingMode
 from ..rules.key_based import MOST_FAILURES
-from . import device_events, key_based_writes, pairing_events, power_on_events, rates
+from . import device_events, key_based_writes, name_writes, pairing_events, power_on_events, rates
 from .clocks import LATE, earlier, random_clock
 from .faulty_fields import with_faults, wrong_link
 from .history import History
@@ -21,6 +21,7 @@ class Generator:
         self.history = History()
         self.phase = "pairings"
         self.events_left = 0
+        self.last_event = None
         self.try_earlier = False
 
     def next_event(self, device):
@@ -28,11 +29,13 @@ class Generator:
         if device is None:
             return self.first_power_on()
         self.history.note(device)
+        self.history.note_packet(self.last_event, device)
         self.next_phase()
         event = self.by_state(device) or self.by_phase(device)
         clock = getattr(event, "clock", device.clock)
         # A clock that went back, or a reset, shows best in the very next clock.
         self.try_earlier = clock < device.clock or isinstance(event, FactoryReset)
+        self.last_event = event
         return event
 
     def first_power_on(self):
@@ -119,8 +122,15 @@ class Generator:
         link = link_number(self.random) if link is None else link
         return self.on_link(self.random.choice(pairing_events.EVERY), device, link)
 
+    def name_write(self, device):
+        """A name write, most often on a link that holds a K."""
+        link = busy_link(self.random, device) if self.chance(0.95) else link_number(self.random)
+        if link is None:
+            return self.fitting_request(device)
+        return self.on_link(name_writes.name_write, device, link)
+
     def event_after_drop(self, device):
-        """The event that a link waited for before its K was dropped."""
+        """The event that a link waited for before its K was dropped, or a name write."""
         links = self.history.just_dropped or self.history.dropped_links(device)
         if not links:
             return self.fitting_request(device)
@@ -129,7 +139,8 @@ class Generator:
         # Built as if K were still there; a small step keeps it in time.
         before = hold(device, link, session)
         clock = random_clock(self.random, device, {"small step": 1})
-        make = pairing_events.EXPECTED[session.stage]
+        waited_for = pairing_events.EXPECTED[session.stage]
+        make = name_writes.name_write if self.chance(0.25) else waited_for
         return make(self.random, before, self.history, link, clock)
 
     def request_before_lockout(self, device):

@@ -1,14 +1,16 @@
 """Key-based writes: fitting ones, replayed ones, and those that no candidate fits."""
 
+from dataclasses import replace
+
 from ..rules.aes import encrypt
 from ..rules.events import KeyBasedWrite
 from ..rules.key_based import MOST_FAILURES
 from . import seeker_blocks
-from .random_values import account_key, lent_output, other_bit, resized, weighted
+from .random_values import account_key, lent_output, lent_packet, other_bit, resized, weighted
 
 # "The salt is bytes 14 to 15 if flags 0x40 or 0x10 is set, else 8 to 15."
-SHORT_SALT_FLAGS = (0x40, 0x40, 0x10, 0x10, 0x50, 0xC0, 0x90, 0xFF)
-LONG_SALT_FLAGS = (0x00, 0x00, 0x80, 0x80, 0x20, 0x0F, 0xAF)
+SHORT_SALT_FLAGS = (0x40, 0x40, 0x10, 0x10, 0x50, 0xC0, 0x90, 0x60, 0x30, 0x70, 0xDF, 0xFF)
+LONG_SALT_FLAGS = (0x00, 0x00, 0x80, 0x80, 0x20, 0x20, 0xA0, 0x0F, 0x8F, 0xAF)
 WRONG_TYPES = (0x10, 0x10, 0x01, 0x02, 0x80, 0xFF)
 WRONG_SIZES = (0, 1, 15, 17, 32, 64, 79, 81, 96, 160)
 
@@ -29,9 +31,9 @@ def write(random, link, clock, key_block, public, accepted=True, secret=None):
     """The event around an encrypted request."""
     data = key_block + random.randbytes(64) if public else key_block
     secret = random.randbytes(32) if secret is None else secret
-    return KeyBasedWrite(
-        link, clock, data, accepted, secret, random.randbytes(9), lent_output(random)
-    )
+    salt, nonce = random.randbytes(9), random.randbytes(8)
+    outputs = lent_output(random), lent_packet(random)
+    return KeyBasedWrite(link, clock, data, accepted, secret, salt, nonce, *outputs)
 
 
 def encrypted(random, device, link, clock, raw):
@@ -102,10 +104,7 @@ def remembered_salt(random, device, history, link, clock):
 def wrong_size(random, device, history, link, clock):
     """A request of a wrong length."""
     event = fitting(random, device, history, link, clock)
-    data = resized(random, event.data, WRONG_SIZES)
-    return KeyBasedWrite(
-        link, clock, data, event.accepted, event.secret, event.salt, event.out
-    )
+    return replace(event, data=resized(random, event.data, WRONG_SIZES))
 
 
 def nonfitting(random, device, history, link, clock):

@@ -1,31 +1,42 @@
-"""Power-on events, from well-formed lists and from malformed ones."""
+"""Power-on events: with a list and a name, with a malformed list, and with a bad name."""
 
 from ..rules.events import PowerOn
 from ..rules.stored_list import pack
 from .malformed_lists import MALFORMED
+from .random_names import ill_formed, long_name, some_name
 from .random_values import different_keys, weighted
 
 # Full lists often, so that evictions come soon.
 COUNTS = {0: 2, 1: 2, 2: 2, 3: 2, 4: 3, 5: 4}
 
 
-def power_on(random, device, history, stored):
-    """Power-on from this list; most often with the addresses that the device had."""
+def power_on(random, device, history, stored, name):
+    """Power-on from this list and name; most often with the addresses that the device had."""
     if device is None or random.random() < 0.3:
         public, model = random.randbytes(6), random.randbytes(3)
     else:
         public, model = device.public, device.model
     ble = public if random.random() < 0.03 else random.randbytes(6)
-    return PowerOn(stored, public, ble, model, random.randbytes(2))
+    return PowerOn(stored, name, public, ble, model, random.randbytes(2))
 
 
 def well_formed(random, device, history):
     """Power-on that is taken."""
-    keys = different_keys(random, weighted(random, COUNTS), history.keys)
-    return power_on(random, device, history, pack(keys))
+    return power_on(random, device, history, some_list(random, history), some_name(random))
+
+
+def some_list(random, history):
+    return pack(different_keys(random, weighted(random, COUNTS), history.keys))
 
 
 def malformed(random, device, history):
-    """Power-on that gets 14."""
+    """Power-on that gets 14 for its list, and now and then could for its name too."""
     make = random.choice(MALFORMED)
-    return power_on(random, device, history, make(random))
+    name = ill_formed(random) if random.random() < 0.1 else some_name(random)
+    return power_on(random, device, history, make(random), name)
+
+
+def bad_name(random, device, history):
+    """Power-on that gets 14 for its name alone."""
+    make = random.choice((long_name, ill_formed, ill_formed))
+    return power_on(random, device, history, some_list(random, history), make(random))

@@ -52,6 +52,12 @@ def lent_output(random):
     return random.randbytes(size)
 
 
+def lent_packet(random):
+    """A second lent output of one of the sizes around 80, filled with random bytes."""
+    size = weighted(random, {0: 0.5, 16: 0.5, 79: 1, 80: 40, 81: 20, 120: 30})
+    return random.randbytes(size)
+
+
 def resized(random, data, sizes):
     """The data cut or filled up to one of these sizes."""
     size = random.choice(sizes)

@@ -6,6 +6,7 @@ from ..rules.device import MOST_KEYS, Stage
 from ..rules.events import AccountKeyWrite, KeyBasedWrite, PasskeyWrite, PowerOn
 from ..rules.key_based import MOST_FAILURES, salt_of
 from ..rules.stored_list import read_stored_list
+from . import name_cases
 from .clocks import LAST_CLOCK, LATE
 
 NAMES = (
@@ -34,6 +35,7 @@ NAMES = (
     "list of 5 read",
     "malformed list with a pairing under way",
     "passkey unequal",
+    *name_cases.NAMES,
 )
 
 
@@ -43,9 +45,11 @@ class RareCases:
     def __init__(self):
         self.counts = dict.fromkeys(NAMES, 0)
         self.accepted = []
+        self.names = name_cases.NameCases(self.met)
 
     def note(self, before, event, after, reply):
         """One step of the run."""
+        self.names.note(before, event, after, reply)
         if isinstance(event, PowerOn):
             self.power_on(before, event, reply)
         if before is None:
@@ -66,7 +70,8 @@ class RareCases:
             self.accepted = []
             self.met("list of 5 read", len(read_stored_list(event.stored)) == 5)
         elif before is not None:
-            self.met("malformed list with a pairing under way", any(before.links))
+            malformed = read_stored_list(event.stored) is None
+            self.met("malformed list with a pairing under way", malformed and any(before.links))
 
     def clocks(self, before, event, reply):
         clock = getattr(event, "clock", None)

@@ -27,29 +27,29 @@ ACTIONS = {
     "pairings": {
         "fitting_request": 16, "expected_event": 64, "failing_event": 7, "any_pairing_event": 4,
         "event_after_drop": 2, "nonfitting_request": 3, "replayed_request": 2, "wrong_size_request": 2,
-        "device_event": 7,
+        "name_write": 16, "device_event": 7,
     },
     "failures": {
         "nonfitting_request": 70, "replayed_request": 6, "public_key_request": 4, "fitting_request": 3,
-        "expected_event": 6, "wrong_size_request": 2, "device_event": 5,
+        "expected_event": 6, "name_write": 2, "wrong_size_request": 2, "device_event": 5,
     },
     "lockouts": {"request_before_lockout": 92, "device_event": 4, "expected_event": 4},
     "salts": {
         "fitting_request": 46, "replayed_request": 34, "expected_event": 12, "nonfitting_request": 3,
-        "device_event": 3,
+        "name_write": 3, "device_event": 3,
     },
     "timers": {
         "fitting_request": 20, "expected_event": 70, "failing_event": 3, "event_after_drop": 3,
-        "device_event": 5,
+        "name_write": 20, "device_event": 5,
     },
     "mixed": {
         "fitting_request": 15, "expected_event": 15, "failing_event": 15, "any_pairing_event": 20,
         "event_after_drop": 10, "nonfitting_request": 10, "replayed_request": 10,
-        "public_key_request": 5, "wrong_size_request": 5, "device_event": 25,
+        "public_key_request": 5, "wrong_size_request": 5, "name_write": 15, "device_event": 25,
     },
     "late pairings": {
         "fitting_request": 25, "expected_event": 50, "nonfitting_request": 4, "failing_event": 2,
-        "device_event": 6,
+        "name_write": 5, "device_event": 6,
     },
     "late failures": {
         "nonfitting_request": 80, "expected_event": 8, "fitting_request": 2, "device_event": 2,
@@ -74,13 +74,13 @@ CLOCKS = {
 
 # Events of the whole device; those that drop every K are rare.
 DEVICE_EVENTS = {
-    "link up": 6, "link down": 6, "mode on": 8, "mode off": 5, "rotation": 6, "overflow": 5,
-    "reset": 1, "power-on": 3, "malformed list": 14,
+    "link up": 6, "link down": 6, "mode on": 8, "mode off": 5, "rotation": 6, "overflow": 8,
+    "reset": 1.5, "power-on": 3, "malformed list": 14, "bad name": 5,
 }
 
 # Chances of one event, whatever the phase.
 POWER_ON_WHEN_LATE = 0.04
-EXPECTED_EVENT_AFTER_DROP = 0.15
+EXPECTED_EVENT_AFTER_DROP = 0.25
 EARLIER_CLOCK_AGAIN = 0.25
 RESET_WHEN_LOCKED = 0.015
 POWER_ON_WHEN_LOCKED = 0.01

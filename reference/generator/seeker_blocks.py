@@ -1,8 +1,9 @@
-"""The seeker's side: the blocks that a phone writes, for building test inputs."""
+"""The seeker's side: the blocks and packets that a phone writes, for building test inputs."""
 
 from hashlib import sha256
 
 from ..rules.aes import encrypt
+from ..rules.name_packet import seal
 
 REQUEST = 0x00
 SEEKER_PASSKEY = 0x02
@@ -34,3 +35,8 @@ def passkey_block(key, passkey, salt, kind=SEEKER_PASSKEY):
 def account_key_block(key, account_key):
     """The account key, encrypted with the session key."""
     return encrypt(key, account_key)
+
+
+def name_packet(key, nonce, name):
+    """A name as a phone writes it: the packet has the same form in both directions."""
+    return seal(key, nonce, name)

@@ -2,6 +2,7 @@
 
 from .device import Device, drop, drop_all
 from .events import Reply, plain_reply
+from .name import is_name
 from .stored_list import read_stored_list
 
 
@@ -11,12 +12,12 @@ def overflow(device, event):
 
 
 def power_on(device, event):
-    """ "Starts from a stored list, addresses, model ID and salt." """
+    """ "Starts from a stored list, addresses, model ID and salt." and from a name: "a bad one gets 14" """
     keys = read_stored_list(event.stored)
     # "no device made; an earlier one stays as it was"
-    if keys is None:
+    if keys is None or not is_name(event.name):
         return device, Reply(14)
-    made = Device(tuple(keys), event.public, event.ble, event.model, event.salt)
+    made = Device(tuple(keys), event.name, event.public, event.ble, event.model, event.salt)
     return made, Reply(0)
 
 
@@ -37,4 +38,5 @@ def address_rotated(device, event):
 
 def factory_reset(device, event):
     """ "Empties the key list and spent salts, drops every K, sets the count to 0." """
-    return drop_all(device).copy(keys=(), spent=(), failures=0), plain_reply(event, 0)
+    # Names are "emptied by factory reset".
+    return drop_all(device).copy(keys=(), name=b"", spent=(), failures=0), plain_reply(event, 0)

@@ -33,6 +33,7 @@ class Device:
     """ "All links idle, count 0, no spent salts, pairing mode off, clock 0." """
 
     keys: tuple[bytes, ...]
+    name: bytes
     public: bytes
     ble: bytes
     model: bytes

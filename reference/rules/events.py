@@ -1,4 +1,4 @@
-"""The thirteen kinds of event of document 01, as plain data, and the reply to one."""
+"""The fourteen kinds of event of document 01 and of request (i) of document 02, as plain data, and the reply to one."""
 
 from dataclasses import dataclass
 
@@ -35,9 +35,10 @@ class AddressRotated:
 
 @dataclass(frozen=True)
 class PowerOn:
-    """Starts a device from a stored list; it has no clock."""
+    """Starts a device from a stored list and a name; it has no clock."""
 
     stored: bytes
+    name: bytes
     public: bytes
     ble: bytes
     model: bytes
@@ -51,7 +52,7 @@ class FactoryReset:
 
 @dataclass(frozen=True)
 class KeyBasedWrite:
-    """`accepted` and `secret` are the secure element's result; `out` is lent."""
+    """`accepted` and `secret` are the secure element's result; `out` and `packet` are lent."""
 
     link: int
     clock: int
@@ -59,7 +60,9 @@ class KeyBasedWrite:
     accepted: bool
     secret: bytes
     salt: bytes
+    nonce: bytes
     out: bytes
+    packet: bytes
 
 
 @dataclass(frozen=True)
@@ -101,6 +104,15 @@ class AccountKeyWrite:
     block: bytes
 
 
+@dataclass(frozen=True)
+class NameWrite:
+    """`packet` is what the seeker wrote; nothing is lent."""
+
+    link: int
+    clock: int
+    packet: bytes
+
+
 KINDS = (
     Overflow,
     LinkUp,
@@ -115,6 +127,7 @@ KINDS = (
     PasskeyWrite,
     PairingEnded,
     AccountKeyWrite,
+    NameWrite,
 )
 
 KINDS_ON_A_LINK = (
@@ -126,23 +139,34 @@ KINDS_ON_A_LINK = (
     PasskeyWrite,
     PairingEnded,
     AccountKeyWrite,
+    NameWrite,
 )
 
-# "Key-based and passkey writes lend a response output, and no other event does"
+# "Key-based and passkey writes lend a response output, and no other event does"; a key-based write lends one more
 LENDING = (KeyBasedWrite, PasskeyWrite)
 
 
 @dataclass(frozen=True)
 class Reply:
-    """The answer number, all that it hands out, and the lent output afterwards."""
+    """The answer number, all that it hands out, and both lent outputs afterwards."""
 
     answer: int
     tried: int = 0
     bond: bytes | None = None
     confirm: bool | None = None
     out: bytes = b""
+    packet_length: int = 0
+    packet: bytes = b""
+
+
+def lent_outputs(event):
+    """The lent outputs as they were beforehand: the response's and the packet's, empty if none is lent."""
+    # The packet of a name write is an input.
+    packet = event.packet if isinstance(event, KeyBasedWrite) else b""
+    return getattr(event, "out", b""), packet
 
 
 def plain_reply(event, answer, tried=0):
-    """A reply that hands out nothing else and leaves a lent output as it was."""
-    return Reply(answer, tried, out=getattr(event, "out", b""))
+    """A reply that hands out nothing else and leaves the lent outputs as they were."""
+    out, packet = lent_outputs(event)
+    return Reply(answer, tried, out=out, packet=packet)

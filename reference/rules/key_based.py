@@ -6,6 +6,7 @@ from .aes import decrypt, encrypt
 from .device import Session, Stage, hold
 from .events import Reply, plain_reply
 from .lent_output import put
+from .name_packet import seal
 
 # "The tenth failure gets 7, the next write 5."
 MOST_FAILURES = 10
@@ -16,6 +17,7 @@ REQUEST = 0x00
 RESPONSE = 0x01
 BONDING = 0x40
 RETROACTIVE = 0x10
+NAME_WANTED = 0x20
 
 
 def key_based_write(device, event):
@@ -82,4 +84,7 @@ def accept(device, event, place, key, request):
     response = encrypt(key, bytes([RESPONSE]) + device.public + event.salt)
     # "Flag 0x40 also hands out the address in bytes 8 to 13 for bonding."
     bond = request[8:14] if request[1] & BONDING else None
-    return device, Reply(0, place, bond, out=put(response, event.out))
+    # "An accepted request with 0x20 hands out the packet's length and writes the packet to a second output"
+    packet = seal(key, event.nonce, device.name) if request[1] & NAME_WANTED else b""
+    outputs = put(response, event.out), len(packet), put(packet, event.packet)
+    return device, Reply(0, place, bond, None, *outputs)

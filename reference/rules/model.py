@@ -1,6 +1,6 @@
-"""The device as document 01 describes it: one step for each event, in the document's order of checks."""
+"""The device as document 01 and request (i) describe it: one step for each event, in the document's order of checks."""
 
-from . import control, events, key_based, pairing
+from . import control, events, key_based, name, pairing
 from .clock import clock_step
 from .device import LINKS, drop_all
 from .events import plain_reply
@@ -8,6 +8,10 @@ from .events import plain_reply
 MOST_PASSKEY = 999_999
 # "it needs 16 bytes, asked even where none will be written"
 RESPONSE_SIZE = 16
+# "a second output, which needs 80 bytes in every key-based write, else 13"
+PACKET_ROOM = 80
+# "Any size but 16 to 80 gets 2"
+LEAST_PACKET, MOST_PACKET = 16, 80
 
 
 def step(device, event):
@@ -34,9 +38,13 @@ def refusal_without_change(event):
         return 1
     if isinstance(event, events.KeyBasedWrite) and len(event.data) not in (16, 80):
         return 2
+    if isinstance(event, events.NameWrite) and not LEAST_PACKET <= len(event.packet) <= MOST_PACKET:
+        return 2
     if isinstance(event, events.ConfirmationNeeded) and event.passkey > MOST_PASSKEY:
         return 3
     if isinstance(event, events.LENDING) and len(event.out) < RESPONSE_SIZE:
+        return 13
+    if isinstance(event, events.KeyBasedWrite) and len(event.packet) < PACKET_ROOM:
         return 13
     return None
 
@@ -54,4 +62,5 @@ RULES = {
     events.PasskeyWrite: pairing.passkey_write,
     events.PairingEnded: pairing.pairing_ended,
     events.AccountKeyWrite: pairing.account_key_write,
+    events.NameWrite: name.name_write,
 }

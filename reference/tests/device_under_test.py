@@ -5,6 +5,7 @@ from ..rules.events import (
     AccountKeyWrite,
     ConfirmationNeeded,
     KeyBasedWrite,
+    NameWrite,
     PairingEnded,
     PairingMode,
     PairingStarted,
@@ -12,6 +13,7 @@ from ..rules.events import (
     PowerOn,
 )
 from ..rules.model import step
+from ..rules.name_packet import seal
 from ..rules.stored_list import pack
 
 PUBLIC = bytes.fromhex("A0A1A2A3A4A5")
@@ -23,6 +25,9 @@ RESPONSE_SALT = bytes(range(0x70, 0x79))
 PASSKEY_SALT = bytes(range(0x50, 0x5C))
 SECRET = bytes(range(32))
 OUT = bytes(range(0xE0, 0xF4))
+NONCE = bytes(range(0x40, 0x48))
+PACKET = bytes(range(0x90, 0xE8))
+NAME = "Kopfhörer".encode()
 
 
 def account_key(i):
@@ -30,18 +35,18 @@ def account_key(i):
     return b"\x04" + bytes([i]) * 15
 
 
-def power_on(keys=()):
-    """Power-on with these account keys."""
-    return PowerOn(pack(keys), PUBLIC, BLE, MODEL, FILTER_SALT)
+def power_on(keys=(), name=NAME):
+    """Power-on with these account keys and this name."""
+    return PowerOn(pack(keys), name, PUBLIC, BLE, MODEL, FILTER_SALT)
 
 
 class DeviceUnderTest:
     """Keeps the state and the last reply; every method sends one event."""
 
-    def __init__(self, keys=()):
+    def __init__(self, keys=(), name=NAME):
         self.device = None
         self.salts = 0
-        self.send(power_on(keys))
+        self.send(power_on(keys, name))
 
     def send(self, event):
         """Send the event, keep the next state, give back the answer number."""
@@ -53,10 +58,10 @@ class DeviceUnderTest:
         self.salts += 1
         return self.salts.to_bytes(size, "big")
 
-    def request(self, key, link=0, clock=0, out=OUT, **parts):
+    def request(self, key, link=0, clock=0, out=OUT, packet=PACKET, nonce=NONCE, **parts):
         """A 16-byte key-based write with this account key."""
         block = self.request_block(key, **parts)
-        return self.send(KeyBasedWrite(link, clock, block, True, SECRET, RESPONSE_SALT, out))
+        return self.raw_request(block, link, clock, out, packet, nonce)
 
     def request_block(self, key, flags=0, address=BLE, salt=None, seeker_address=b"", kind=0):
         """The encrypted request."""
@@ -66,12 +71,12 @@ class DeviceUnderTest:
     def public_request(self, link=0, clock=0, accepted=True, key=None, out=OUT, **parts):
         """An 80-byte key-based write."""
         block = self.request_block(key or seeker_blocks.session_key(SECRET), **parts)
-        data = block + bytes(64)
-        return self.send(KeyBasedWrite(link, clock, data, accepted, SECRET, RESPONSE_SALT, out))
+        return self.raw_request(block + bytes(64), link, clock, out, accepted=accepted)
 
-    def raw_request(self, data, link=0, clock=0, out=OUT):
+    def raw_request(self, data, link=0, clock=0, out=OUT, packet=PACKET, nonce=NONCE, accepted=True):
         """A key-based write of any bytes."""
-        return self.send(KeyBasedWrite(link, clock, data, True, SECRET, RESPONSE_SALT, out))
+        brought = accepted, SECRET, RESPONSE_SALT, nonce
+        return self.send(KeyBasedWrite(link, clock, data, *brought, out, packet))
 
     def pairing_mode(self, on, clock=0):
         return self.send(PairingMode(on, clock))
@@ -95,6 +100,13 @@ class DeviceUnderTest:
     def account_key_write(self, key, new, link=0, clock=0):
         block = seeker_blocks.account_key_block(key, new)
         return self.send(AccountKeyWrite(link, clock, block))
+
+    def name_write(self, key, name, link=0, clock=0, nonce=NONCE):
+        """A name sealed with this key."""
+        return self.raw_name_write(seal(key, nonce, name), link, clock)
+
+    def raw_name_write(self, packet, link=0, clock=0):
+        return self.send(NameWrite(link, clock, packet))
 
     def stage(self, link=0):
         """The stage of the link, or None if it is idle."""

@@ -9,6 +9,7 @@ from ..rules.events import (
     FactoryReset,
     LinkDown,
     LinkUp,
+    NameWrite,
     Overflow,
     PairingEnded,
     PairingMode,
@@ -22,6 +23,7 @@ from .device_under_test import (
     FILTER_SALT,
     MODEL,
     OUT,
+    PACKET,
     PUBLIC,
     DeviceUnderTest,
     account_key,
@@ -42,6 +44,7 @@ def events_on(link, clock):
         PairingEnded(link, clock, True),
         PairingEnded(link, clock, False),
         AccountKeyWrite(link, clock, bytes(16)),
+        NameWrite(link, clock, bytes(16)),
     )
 
 
@@ -56,6 +59,7 @@ class Table(unittest.TestCase):
         self.assertEqual(self.tested.device, before)
         reply = self.tested.reply
         self.assertEqual((reply.tried, reply.bond, reply.confirm), (0, None, None))
+        self.assertEqual(reply.packet_length, 0)
 
     def test_0_and_9_to_12_are_in_the_pairing_tests(self):
         self.tested.bring_to("paired", KEY)
@@ -73,7 +77,9 @@ class Table(unittest.TestCase):
         self.tested.bring_to("asked", KEY, clock=50)
         for size in (0, 1, 15, 17, 64, 79, 81, 96, 160):
             self.unchanged(lambda: self.tested.raw_request(bytes(size), clock=60), 2)
-            self.assertEqual(self.tested.reply.out, OUT)
+            self.assertEqual((self.tested.reply.out, self.tested.reply.packet), (OUT, PACKET))
+        for size in (0, 1, 15, 81, 96, 160):
+            self.unchanged(lambda: self.tested.raw_name_write(bytes(size), clock=60), 2)
 
     def test_3_our_passkey_too_large(self):
         self.tested.bring_to("pairing", KEY, clock=50)
@@ -111,8 +117,17 @@ class Table(unittest.TestCase):
             self.unchanged(lambda: self.tested.passkey_write(KEY, clock=60, out=out), 13)
             self.assertEqual(self.tested.reply.out, out)
 
+    def test_13_second_output_too_short(self):
+        self.tested.bring_to("confirming", KEY, clock=50)
+        for size in (0, 16, 79):
+            packet = bytes(size)
+            for flags in (0x00, 0x20):
+                self.unchanged(lambda: self.tested.request(KEY, clock=60, packet=packet, flags=flags), 13)
+                self.assertEqual((self.tested.reply.out, self.tested.reply.packet), (OUT, packet))
+        self.assertEqual(self.tested.request(KEY, clock=60, packet=bytes(80)), 0)
+
     def test_14_leaves_the_earlier_device(self):
-        malformed = PowerOn(b"", PUBLIC, BLE, MODEL, FILTER_SALT)
+        malformed = PowerOn(b"", b"", PUBLIC, BLE, MODEL, FILTER_SALT)
         self.unchanged(lambda: self.tested.send(malformed), 14)
 
 
@@ -128,6 +143,11 @@ class Order(unittest.TestCase):
         self.assertEqual(tested.raw_request(bytes(17), 8, 49, SHORT), 1)
         self.assertEqual(tested.raw_request(bytes(17), 0, 49, SHORT), 2)
         self.assertEqual(tested.raw_request(bytes(16), 0, 49, SHORT), 13)
+        self.assertEqual(tested.raw_request(bytes(17), 8, 49, OUT, bytes(79)), 1)
+        self.assertEqual(tested.raw_request(bytes(17), 0, 49, OUT, bytes(79)), 2)
+        self.assertEqual(tested.raw_request(bytes(16), 0, 49, OUT, bytes(79)), 13)
+        self.assertEqual(tested.raw_name_write(bytes(15), 8, 49), 1)
+        self.assertEqual(tested.raw_name_write(bytes(15), 0, 49), 2)
         self.assertEqual(tested.confirmation_needed(8, 49, 1_000_000), 1)
         self.assertEqual(tested.confirmation_needed(0, 49, 1_000_000), 3)
         self.assertEqual(tested.raw_passkey_write(b"", 8, 49, SHORT), 1)
@@ -163,6 +183,18 @@ class Order(unittest.TestCase):
     def test_10_comes_before_12(self):
         self.assertEqual(self.tested.raw_passkey_write(b"", 0, 50), 10)
         self.assertEqual(self.tested.raw_passkey_write(b"", 0, 50), 9)
+
+    def test_name_write(self):
+        tested = self.tested
+        # A wrong tag throughout.
+        self.assertEqual(tested.raw_name_write(bytes(81), 5, 50), 2)
+        self.assertEqual(tested.raw_name_write(bytes(80), 5, 50), 9)
+        tested.bring_to("paired", KEY, link=4, clock=50)
+        self.assertEqual(tested.raw_name_write(bytes(81), 4, 50), 2)
+        self.assertEqual(tested.raw_name_write(bytes(80), 4, 50), 10)
+        self.assertEqual(tested.raw_name_write(bytes(80), 0, 50), 15)
+        self.assertEqual(tested.raw_name_write(bytes(80), 0, 49), 4)
+        self.assertEqual(tested.raw_name_write(bytes(80), 0, 50), 9)
 
 
 class DeviceEvents(unittest.TestCase):
@@ -211,7 +243,7 @@ class DeviceEvents(unittest.TestCase):
         self.tested.pairing_mode(True, 51)
         self.assertEqual(self.tested.send(FactoryReset(52)), 0)
         device = self.tested.device
-        self.assertEqual((device.keys, device.spent, device.failures), ((), (), 0))
+        self.assertEqual((device.keys, device.name, device.spent, device.failures), ((), b"", (), 0))
         self.assertEqual((device.links, device.clock), ((None,) * 8, 52))
         self.assertEqual((device.pairing_mode, device.ble, device.public), (True, BLE, PUBLIC))
         self.assertEqual(stored_list(device).hex(), "00020100")

@@ -9,14 +9,14 @@ from ..rules.events import Overflow, Reply
 class Covering(unittest.TestCase):
     def test_nothing_reached(self):
         answers, stages = not_reached(Coverage())
-        self.assertEqual(answers, list(range(15)))
+        self.assertEqual(answers, list(range(16)))
         self.assertEqual(stages, ["asked", "pairing", "confirming", "proved", "paired"])
 
     def test_counts(self):
         coverage = Coverage()
         coverage.note(None, Overflow(), None, Reply(0))
         self.assertEqual(coverage.pairs["Overflow", 0], 1)
-        self.assertEqual(not_reached(coverage)[0], list(range(1, 15)))
+        self.assertEqual(not_reached(coverage)[0], list(range(1, 16)))
 
 
 if __name__ == "__main__":

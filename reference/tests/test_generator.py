@@ -7,15 +7,17 @@ from unittest import mock
 from ..generator.coverage import Coverage, not_reached, table
 from ..generator.generate import Generator
 from ..generator.malformed_lists import MALFORMED
+from ..generator.random_names import characters, ill_formed, long_name, some_name
 from ..generator.rare_cases import RareCases
-from ..rules import control, events, key_based, model, pairing
+from ..rules import control, events, key_based, model, name, name_packet, pairing
 from ..rules.advertising import advertisement
-from ..rules.device import drop
-from ..rules.events import plain_reply
+from ..rules.device import Stage, drop
+from ..rules.events import lent_outputs, plain_reply
 from ..rules.model import step
+from ..rules.name import is_name
 from ..rules.stored_list import read_stored_list, stored_list
 
-SIZES = {"public": 6, "ble": 6, "model": 3, "secret": 32}
+SIZES = {"public": 6, "ble": 6, "model": 3, "secret": 32, "nonce": 8}
 SALT_SIZES = {
     events.PowerOn: 2,
     events.AddressRotated: 2,
@@ -40,7 +42,7 @@ def seen(device, reply):
     """All that can be seen of a step without reading the state."""
     if device is None:
         return reply, None
-    return reply, stored_list(device), advertisement(device, False)
+    return reply, stored_list(device), advertisement(device, False), device.name
 
 
 class Generating(unittest.TestCase):
@@ -80,17 +82,30 @@ class Generating(unittest.TestCase):
 
     def test_outputs_change_only_with_answer_0(self):
         for _, event, _, reply in self.steps:
-            before = getattr(event, "out", b"")
-            self.assertEqual(len(reply.out), len(before))
-            self.assertEqual(reply.out[16:], before[16:])
+            out, packet = lent_outputs(event)
+            self.assertEqual((len(reply.out), len(reply.packet)), (len(out), len(packet)))
+            self.assertEqual(reply.out[16:], out[16:])
+            length = reply.packet_length
+            self.assertEqual(reply.packet[length:], packet[length:])
             if reply.answer != 0:
-                self.assertEqual(reply.out, before)
+                self.assertEqual((reply.out, length), (out, 0))
 
     def test_malformed_lists_are_malformed(self):
         random = Random(14)
         for make in MALFORMED:
             for _ in range(300):
                 self.assertIsNone(read_stored_list(make(random)), make.__name__)
+
+    def test_names_and_bad_names(self):
+        random = Random(15)
+        for _ in range(500):
+            self.assertTrue(is_name(some_name(random)))
+            for make in (long_name, ill_formed):
+                self.assertFalse(is_name(make(random)), make.__name__)
+            self.assertGreater(len(long_name(random)), 64)
+            self.assertLessEqual(len(ill_formed(random)), 64)
+        for size in range(65):
+            self.assertEqual(len(characters(random, size)), size)
 
 
 class MistakesWeHaveSeen(unittest.TestCase):
@@ -143,6 +158,25 @@ class MistakesWeHaveSeen(unittest.TestCase):
             return after, plain_reply(event, 0) if failed_idle else reply
 
         with mock.patch.dict(model.RULES, {events.PairingEnded: taking}):
+            self.assert_found()
+
+    def test_nonce_left_out_of_the_hmac(self):
+        def without(key, nonce, encrypted):
+            return name_packet.hmac_sha256(key, encrypted)[:8]
+
+        with mock.patch.object(name_packet, "tag_of", without):
+            self.assert_found()
+
+    def test_name_taken_in_paired(self):
+        with mock.patch.object(name, "TAKEN_IN", tuple(Stage)):
+            self.assert_found()
+
+    def test_15_drops_k(self):
+        def dropping(device, event):
+            after, reply = name.name_write(device, event)
+            return (drop(after, event.link) if reply.answer == 15 else after), reply
+
+        with mock.patch.dict(model.RULES, {events.NameWrite: dropping}):
             self.assert_found()
 
 

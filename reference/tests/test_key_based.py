@@ -8,7 +8,9 @@ from ..rules.events import FactoryReset, KeyBasedWrite
 from ..rules.key_based import salt_of
 from .device_under_test import (
     BLE,
+    NONCE,
     OUT,
+    PACKET,
     PUBLIC,
     RESPONSE_SALT,
     SECRET,
@@ -89,7 +91,7 @@ class PublicKey(unittest.TestCase):
         self.assertEqual(self.tested.request(seeker_blocks.session_key(SECRET)), 7)
         self.assertEqual(self.tested.reply.tried, 5)
         block = self.tested.request_block(KEYS[2])
-        write = KeyBasedWrite(0, 0, block, False, bytes(32), RESPONSE_SALT, OUT)
+        write = KeyBasedWrite(0, 0, block, False, bytes(32), RESPONSE_SALT, NONCE, OUT, PACKET)
         self.assertEqual(self.tested.send(write), 0)
 
     def test_mode_on_serves_account_keys(self):

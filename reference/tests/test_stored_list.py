@@ -7,7 +7,7 @@ from ..rules.events import PowerOn, Reply
 from ..rules.lent_output import write_stored_list
 from ..rules.model import step
 from ..rules.stored_list import pack, read_stored_list, stored_list
-from .device_under_test import BLE, FILTER_SALT, MODEL, PUBLIC, DeviceUnderTest, account_key
+from .device_under_test import BLE, FILTER_SALT, MODEL, NAME, PUBLIC, DeviceUnderTest, account_key
 
 KEYS = [account_key(i) for i in range(6)]
 
@@ -38,7 +38,7 @@ MALFORMED = {
 
 
 def power_on_from(stored):
-    return PowerOn(stored, PUBLIC, BLE, MODEL, FILTER_SALT)
+    return PowerOn(stored, NAME, PUBLIC, BLE, MODEL, FILTER_SALT)
 
 
 class StoredList(unittest.TestCase):
@@ -76,7 +76,7 @@ class StoredList(unittest.TestCase):
 class PowerOnFromList(unittest.TestCase):
     def test_taken(self):
         device, reply = step(None, power_on_from(pack(KEYS[:2])))
-        expected = Device(tuple(KEYS[:2]), PUBLIC, BLE, MODEL, FILTER_SALT)
+        expected = Device(tuple(KEYS[:2]), NAME, PUBLIC, BLE, MODEL, FILTER_SALT)
         self.assertEqual((device, reply), (expected, Reply(0)))
 
     def test_taken_again_starts_anew(self):
@@ -85,7 +85,7 @@ class PowerOnFromList(unittest.TestCase):
         tested.request(KEYS[0], clock=6)
         tested.request(KEYS[1], link=1, clock=7)
         self.assertEqual(tested.send(power_on_from(pack(KEYS[1:3]))), 0)
-        expected = Device(tuple(KEYS[1:3]), PUBLIC, BLE, MODEL, FILTER_SALT)
+        expected = Device(tuple(KEYS[1:3]), NAME, PUBLIC, BLE, MODEL, FILTER_SALT)
         self.assertEqual(tested.device, expected)
 
     def test_malformed_makes_no_device(self):

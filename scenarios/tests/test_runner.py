@@ -61,6 +61,37 @@ class Comparing(Texts):
         found = first_difference(self.text(RIGHT), WritesTooMuch())
         self.assertEqual(found.words(), "0, but the lent output holds 3f")
 
+    def test_bytes_of_the_second_output_count(self):
+        class WritesTooMuch(SecondProgram):
+            def result(self, asked):
+                found = super().result(asked)
+                return replace(found, reply=replace(found.reply, packet=b"?"))
+
+        found = first_difference(self.text(RIGHT), WritesTooMuch())
+        self.assertEqual(found.words(), "0, but the lent output holds  and the second one 3f")
+
+    def test_each_part_of_a_packet_counts(self):
+        line = "key-based write  link 0, clock 0, with key 1, names BLE 1, flags 20, salt 0000000000000001"
+        right = "0, tried 1, writes 5648e98396008dcc2221eb821a7cf50b, packet 9cc61af31df28505 3132333435363738 3d"
+        power_on = 'power-on  keys 1, name "a" -> 0\n'
+        self.assertIsNone(self.difference(f"{power_on}{line} -> {right}"))
+        for part, other in (("9cc6", "9cc7"), ("3738", "3739"), (" 3d", " 3c"), (" 3d", ""), (" 3d", " 3d80")):
+            self.assertIsNotNone(self.difference(f"{power_on}{line} -> {right.replace(part, other)}"))
+
+    def test_the_name_is_shown_in_text_or_in_bytes(self):
+        names = ('"Küche"', '"Küche"'), ("4bc3bc", '"Kü"'), ("00", "00"), ("e282ac", "e282ac"), ("612c20", "612c20")
+        for name, shown in names:
+            self.assertIsNone(self.difference(f"power-on  keys 1, name {name} -> 0\nname  -> {shown}"))
+        self.assertIsNone(self.difference("power-on  keys 1 -> 0\nname  -> no name"))
+        found = self.difference('power-on  keys 1, name "a" -> 0\nname  -> "b"')
+        self.assertEqual(found.words(), 'the text says: "b"; found: "a"')
+
+    def test_a_byte_of_a_packet_is_changed(self):
+        text = 'power-on  keys 1 -> 0\nbrought to asked  link 0, clock 0, with key 1, salt 0000000000000001 -> 0\n'
+        write = 'name write  link 0, clock 0, with key 1, name "a"'
+        self.assertIsNone(self.difference(f"{text}{write} -> 0"))
+        self.assertIsNone(self.difference(f"{text}{write}, changed byte 16 -> 15"))
+
     def test_missing_result(self):
         found = self.difference("power-on  keys 1")
         self.assertEqual(found.words(), "the text has no result; found: 0")
@@ -96,6 +127,12 @@ class Errors(Texts):
         self.assertIn("link 256 is above 255", self.error("link up  link 256, clock 0"))
         self.assertIn("there is no 'key 16'", self.error("power-on  keys 16"))
         self.assertIn("only an event can be repeated", self.error("stored list  times 2"))
+        self.assertIn("only an event can be repeated", self.error("name  times 2"))
+        self.assertIn("name 'Küche' is not hexadecimal", self.error("power-on  keys 1, name Küche"))
+        self.assertIn("'name' is missing", self.error("name write  link 0, clock 0, with key 1"))
+        no_byte = "name write  link 0, clock 0, with key 1, no name, changed byte 16"
+        self.assertIn("no byte 16 to change", self.error(no_byte))
+        self.assertIn("has to have 8 bytes", self.error(no_byte.replace("changed byte 16", "nonce 01")))
 
     def test_they_name_the_file_and_the_line(self):
         with self.assertRaises(TextError) as caught:

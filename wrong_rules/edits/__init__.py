@@ -5,13 +5,42 @@ Left out, because no events can tell them from the right rules:
 - the clock step looks at the count before the stages: neither depends on the other;
 - the failure's moment is kept, or set to 0, when the count becomes 0: it is not read while the count is 0;
 - 5 is given from a count of ten on: the count is never above ten;
-- our passkey is kept when a link has left confirming, and the moment of a stage without timer: nothing reads them.
+- our passkey is kept when a link has left confirming, and the moment of a stage without timer: nothing reads them;
+- a row of the UTF-8 table gets a first byte whose characters are in another row, or are read by an earlier one (`utf8.py`).
 """
 
-from . import advertising, aes, clock, control, device, key_based, lent_output, model, pairing, stored_list
+from . import (
+    advertising,
+    aes,
+    clock,
+    control,
+    device,
+    key_based,
+    lent_output,
+    model,
+    name,
+    name_packet,
+    pairing,
+    stored_list,
+    utf8,
+)
 from .edit import Edit
 
-MODULES = (model, clock, control, device, key_based, pairing, stored_list, advertising, lent_output, aes)
+MODULES = (
+    model,
+    clock,
+    control,
+    device,
+    key_based,
+    pairing,
+    name,
+    name_packet,
+    utf8,
+    stored_list,
+    advertising,
+    lent_output,
+    aes,
+)
 
 # A copy with no wrong rule, which nothing may find; every other file uses this one.
 UNCHANGED = Edit("device", "no wrong rule", "LINKS = 8", "LINKS = 8")

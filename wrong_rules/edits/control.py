@@ -6,9 +6,10 @@ TAKEN = "    return made, Reply(0)\n"
 CHANGED = "    return drop(device, event.link), plain_reply(event, 0)\n"
 MODE = "device.copy(pairing_mode=event.on)"
 ROTATED = "device.copy(ble=event.ble, salt=event.salt)"
-RESET = "drop_all(device).copy(keys=(), spent=(), failures=0)"
+RESET = 'drop_all(device).copy(keys=(), name=b"", spent=(), failures=0)'
+BAD = "    if keys is None or not is_name(event.name):\n"
 KEPT_IN_PROVED = 's if s and s.stage.value == "proved" else None'
-FIELDS = ("links", "clock", "failures", "spent", "pairing_mode", "keys", "ble", "salt", "public", "model")
+FIELDS = ("links", "clock", "failures", "spent", "pairing_mode", "keys", "name", "ble", "salt", "public", "model")
 
 
 def marker(change):
@@ -39,6 +40,7 @@ EDITS = (
     ("the marker ends pairing mode", MARKER, marker("pairing_mode=False")),
     ("the marker sets the clock to 0", MARKER, marker("clock=0")),
     ("the marker empties the list", MARKER, marker("keys=()")),
+    ("the marker empties the name", MARKER, marker('name=b""')),
     (
         "a refused power-on drops every K",
         REFUSED,
@@ -74,13 +76,61 @@ EDITS = (
         REFUSED,
         "        return (device.copy(spent=()) if device else None), Reply(14)\n",
     ),
+    (
+        "a refused power-on takes the new name",
+        REFUSED,
+        "        return (device.copy(name=event.name) if device else None), Reply(14)\n",
+    ),
+    (
+        "a refused power-on empties the name",
+        REFUSED,
+        '        return (device.copy(name=b"") if device else None), Reply(14)\n',
+    ),
     ("a malformed list gets 0", REFUSED, REFUSED.replace("14", "0")),
+    ("a bad name gets 15", REFUSED, REFUSED.replace("14", "14 if keys is None else 15")),
+    ("a bad name at power-on is taken", BAD, "    if keys is None:\n"),
+    (
+        "a long name at power-on is taken",
+        BAD,
+        "    if keys is None or not is_name(event.name[:64]):\n",
+    ),
+    (
+        "a bad name at power-on keeps the earlier one",
+        BAD,
+        "    if not is_name(event.name):\n"
+        "        event = type(event)(**{**vars(event), 'name': device.name if device else b''})\n" + BAD,
+    ),
+    (
+        "a bad name at power-on is an empty one",
+        BAD,
+        "    if not is_name(event.name):\n        event = type(event)(**{**vars(event), 'name': b''})\n" + BAD,
+    ),
+    ("an empty name at power-on gets 14", BAD, BAD.replace("not is_name", "not event.name or not is_name")),
+    (
+        "an empty name at power-on keeps the earlier one",
+        TAKEN,
+        "    if device is not None and not event.name:\n        made = made.copy(name=device.name)\n" + TAKEN,
+    ),
+    ("power-on gives no name", "tuple(keys), event.name", 'tuple(keys), b""'),
+    ("power-on cuts the name to 63 bytes", "tuple(keys), event.name", "tuple(keys), event.name[:63]"),
+    (
+        "power-on ends the name at a zero byte",
+        "tuple(keys), event.name",
+        "tuple(keys), event.name.partition(bytes(1))[0]",
+    ),
     *((f"power-on keeps {field}", TAKEN, keeps(field)) for field in FIELDS),
     ("power-on exchanges the addresses", "event.public, event.ble", "event.ble, event.public"),
     ("power-on reverses the model ID", "event.model, event.salt", "event.model[::-1], event.salt"),
     ("power-on reverses the filter salt", "event.model, event.salt", "event.model, event.salt[::-1]"),
     ("link up and down drop every K", CHANGED, CHANGED.replace("drop(device, event.link)", "drop_all(device)")),
     ("link up and down drop K of link 0", CHANGED, CHANGED.replace("event.link)", "0)")),
+    (
+        "link up and down empty the name",
+        CHANGED,
+        CHANGED.replace("drop(device, event.link)", 'drop(device, event.link).copy(name=b"")'),
+    ),
+    ("pairing mode empties the name", MODE, 'device.copy(pairing_mode=event.on, name=b"")'),
+    ("rotation empties the name", ROTATED, ROTATED.replace(")", ', name=b"")')),
     ("pairing mode is only ever switched on", MODE, "device.copy(pairing_mode=True)"),
     ("pairing mode is inverted by each event", MODE, "device.copy(pairing_mode=not device.pairing_mode)"),
     ("pairing mode drops every K", MODE, "drop_all(device).copy(pairing_mode=event.on)"),
@@ -93,10 +143,11 @@ EDITS = (
     ("rotation empties the salts", ROTATED, ROTATED.replace(")", ", spent=())")),
     ("rotation sets the count to 0", ROTATED, ROTATED.replace(")", ", failures=0)")),
     ("rotation ends pairing mode", ROTATED, ROTATED.replace(")", ", pairing_mode=False)")),
-    ("a reset keeps the keys", RESET, "drop_all(device).copy(spent=(), failures=0)"),
-    ("a reset keeps the salts", RESET, "drop_all(device).copy(keys=(), failures=0)"),
-    ("a reset keeps the count", RESET, "drop_all(device).copy(keys=(), spent=())"),
-    ("a reset keeps every K", RESET, "device.copy(keys=(), spent=(), failures=0)"),
+    ("a reset keeps the keys", RESET, RESET.replace("keys=(), ", "")),
+    ("a reset keeps the name", RESET, RESET.replace('name=b"", ', "")),
+    ("a reset keeps the salts", RESET, RESET.replace("spent=(), ", "")),
+    ("a reset keeps the count", RESET, RESET.replace(", failures=0", "")),
+    ("a reset keeps every K", RESET, RESET.replace("drop_all(device)", "device")),
     ("a reset ends pairing mode", RESET, RESET.replace("failures=0", "failures=0, pairing_mode=False")),
     ("a reset sets the clock to 0", RESET, RESET.replace("failures=0", "failures=0, clock=0")),
     ("a reset clears the filter salt", RESET, RESET.replace("failures=0", "failures=0, salt=bytes(2)")),

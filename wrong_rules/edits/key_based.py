@@ -15,6 +15,8 @@ ACCEPTED = "    device = device.copy(spent=spent, failures=0)\n"
 HELD = "    device = hold(device, event.link, Session(key, Stage.ASKED, device.clock))\n"
 RESPONSE = "encrypt(key, bytes([RESPONSE]) + device.public + event.salt)"
 BOND = "    bond = request[8:14] if request[1] & BONDING else None\n"
+PACKET = '    packet = seal(key, event.nonce, device.name) if request[1] & NAME_WANTED else b""\n'
+OUTPUTS = "    outputs = put(response, event.out), len(packet), put(packet, event.packet)\n"
 SEARCH = "    for place, key in enumerate(keys, start=1):\n"
 DROPPED = "hold(device, event.link, None)"
 
@@ -70,13 +72,14 @@ EDITS = (
     (
         "8 hands out the address for bonding",
         SPENT,
-        "        return device, Reply(8, place, request[8:14] if request[1] & BONDING else None, out=event.out)\n",
+        "        bond = request[8:14] if request[1] & BONDING else None\n"
+        "        return device, Reply(8, place, bond, out=event.out, packet=event.packet)\n",
     ),
     (
         "8 writes a response",
         SPENT,
         "        response = encrypt(key, bytes([RESPONSE]) + device.public + event.salt)\n"
-        "        return device, Reply(8, place, out=put(response, event.out))\n",
+        "        return device, Reply(8, place, out=put(response, event.out), packet=event.packet)\n",
     ),
     ("8 tells 0 keys tried", SPENT, SPENT.replace("tried=place", "tried=0")),
     ("7 tells 0 keys tried", FAILED, FAILED.replace("tried=len(keys)", "tried=0")),
@@ -300,4 +303,88 @@ EDITS = (
     ("the address is bytes 2 to 7", BOND, BOND.replace("[8:14]", "[2:8]")),
     ("the address is bytes 9 to 14", BOND, BOND.replace("[8:14]", "[9:15]")),
     ("the address is handed out in reverse", BOND, BOND.replace("[8:14]", "[13:7:-1]")),
+    ("flag 0x20 hands out an address", BOND, BOND.replace("& BONDING", "& (BONDING | NAME_WANTED)")),
+    ("a packet is written without flag 0x20", PACKET, "    packet = seal(key, event.nonce, device.name)\n"),
+    ("no packet is written", PACKET, '    packet = b""\n'),
+    *(
+        (f"flag 0x{flag:02x} asks for the name", PACKET, PACKET.replace("NAME_WANTED", f"(NAME_WANTED | {flag})"))
+        for flag in (0x80, 0x40, 0x10, 0x08)
+    ),
+    *(
+        (f"flag 0x{flag:02x} asks for the name instead", "NAME_WANTED = 0x20", f"NAME_WANTED = {flag}")
+        for flag in (0x80, 0x40, 0x10, 0x04)
+    ),
+    ("flags 0x20 alone ask for the name", PACKET, PACKET.replace("request[1] &", "request[1] ==")),
+    ("flag 0x40 withholds the name", PACKET, PACKET.replace("& NAME_WANTED", "& (NAME_WANTED | BONDING) == NAME_WANTED")),
+    (
+        "flag 0x10 withholds the name",
+        PACKET,
+        PACKET.replace("& NAME_WANTED", "& (NAME_WANTED | RETROACTIVE) == NAME_WANTED"),
+    ),
+    ("an empty name gives no packet", PACKET, PACKET.replace("if request", "if device.name and request")),
+    (
+        "80 bytes give no packet",
+        PACKET,
+        PACKET.replace("if request", "if len(event.data) == 16 and request"),
+    ),
+    ("the packet has zeros for its nonce", PACKET, PACKET.replace("event.nonce", "bytes(8)")),
+    ("the packet's nonce is of the salt", PACKET, PACKET.replace("event.nonce", "event.salt[:8]")),
+    ("the packet's nonce is the request's salt", PACKET, PACKET.replace("event.nonce", "request[8:]")),
+    ("the packet is under the first account key", PACKET, PACKET.replace("seal(key", "seal((device.keys or (key,))[0]")),
+    ("the packet is cut to 63 bytes of name", PACKET, PACKET.replace("device.name)", "device.name[:63])")),
+    ("asking for the name empties it", PACKET, PACKET + "    device = device.copy(name=b'') if packet else device\n"),
+    ("the length is that of the name", OUTPUTS, OUTPUTS.replace("len(packet)", "max(0, len(packet) - 16)")),
+    ("the length is always 80", OUTPUTS, OUTPUTS.replace("len(packet)", "80 if packet else 0")),
+    ("the length is always 0", OUTPUTS, OUTPUTS.replace("len(packet)", "0")),
+    ("the length of an unasked packet is told", OUTPUTS, OUTPUTS.replace("len(packet)", "16 + len(device.name)")),
+    ("the length counts both outputs", OUTPUTS, OUTPUTS.replace("len(packet)", "len(packet) + (16 if packet else 0)")),
+    ("a packet is told and not written", OUTPUTS, OUTPUTS.replace("put(packet, event.packet)", "event.packet")),
+    (
+        "a packet stands at the end of its output",
+        OUTPUTS,
+        OUTPUTS.replace("put(packet, event.packet)", "event.packet[: len(event.packet) - len(packet)] + packet"),
+    ),
+    (
+        "bytes past the packet become zeros",
+        OUTPUTS,
+        OUTPUTS.replace("event.packet)", "bytes(len(event.packet)) if packet else event.packet)"),
+    ),
+    (
+        "bytes up to 80 past the packet become zeros",
+        OUTPUTS,
+        OUTPUTS.replace("put(packet, event.packet)", "put(packet.ljust(80, bytes(1)) if packet else b'', event.packet)"),
+    ),
+    (
+        "bytes up to 80 become zeros without a packet",
+        OUTPUTS,
+        OUTPUTS.replace("put(packet, event.packet)", "put(packet or bytes(80), event.packet)"),
+    ),
+    (
+        "the packet stands behind the response",
+        OUTPUTS,
+        "    outputs = put(response + packet, event.out), len(packet), event.packet\n",
+    ),
+    (
+        "a packet takes the response's place",
+        OUTPUTS,
+        OUTPUTS.replace("put(response, event.out)", "event.out if packet else put(response, event.out)"),
+    ),
+    (
+        "8 writes the packet",
+        SPENT,
+        "        packet = seal(key, event.nonce, device.name) if request[1] & NAME_WANTED else b''\n"
+        "        return device, Reply(8, place, None, None, event.out, 0, put(packet, event.packet))\n",
+    ),
+    (
+        "8 tells the packet's length",
+        SPENT,
+        "        length = 16 + len(device.name) if request[1] & NAME_WANTED else 0\n"
+        "        return device, Reply(8, place, None, None, event.out, length, event.packet)\n",
+    ),
+    (
+        "7 tells a packet's length",
+        FAILED,
+        "        length = 16 + len(device.name)\n"
+        "        return count_failure(device), Reply(7, len(keys), None, None, event.out, length, event.packet)\n",
+    ),
 )

@@ -5,6 +5,13 @@ LINK = '    if getattr(event, "link", 0) >= LINKS:\n        return 1\n'
 LENGTH = "    if isinstance(event, events.KeyBasedWrite) and len(event.data) not in (16, 80):\n        return 2\n"
 PASSKEY = "    if isinstance(event, events.ConfirmationNeeded) and event.passkey > MOST_PASSKEY:\n        return 3\n"
 OUTPUT = "    if isinstance(event, events.LENDING) and len(event.out) < RESPONSE_SIZE:\n        return 13\n"
+PACKET = (
+    "    if isinstance(event, events.NameWrite) and not LEAST_PACKET <= len(event.packet) <= MOST_PACKET:\n"
+    "        return 2\n"
+)
+SECOND = "    if isinstance(event, events.KeyBasedWrite) and len(event.packet) < PACKET_ROOM:\n        return 13\n"
+SIZES = "LEAST_PACKET, MOST_PACKET = 16, 80"
+REFUSED = "    if answer is not None:\n"
 UNCHANGED = "        return device, plain_reply(event, answer)\n"
 EARLIER = "        return drop_all(device), plain_reply(event, 4)\n"
 RULE = "    return RULES[type(event)](clock_step(device, event.clock), event)\n"
@@ -15,6 +22,14 @@ def no_clock_step(answer):
     return (
         "    after, reply = RULES[type(event)](clock_step(device, event.clock), event)\n"
         f"    return (device if reply.answer == {answer} else after), reply\n"
+    )
+
+
+def earlier(answer, later, if_so, device="device"):
+    """A later check comes before this one in a name write."""
+    return (
+        f"    if answer == {answer} and isinstance(event, events.NameWrite) and {if_so}:\n"
+        f"        return {device}, plain_reply(event, {later})\n" + REFUSED
     )
 
 
@@ -33,9 +48,61 @@ EDITS = (
     ("13 is left out in passkey writes", OUTPUT, OUTPUT.replace("events.LENDING", "events.KeyBasedWrite")),
     ("13 is left out in key-based writes", OUTPUT, OUTPUT.replace("events.LENDING", "events.PasskeyWrite")),
     ("2 comes before 1", LINK + LENGTH, LENGTH + LINK),
-    ("3 comes before 1", LINK + LENGTH + PASSKEY, PASSKEY + LINK + LENGTH),
-    ("13 comes before 1", LINK + LENGTH + PASSKEY + OUTPUT, OUTPUT + LINK + LENGTH + PASSKEY),
-    ("13 comes before 2", LENGTH + PASSKEY + OUTPUT, OUTPUT + LENGTH + PASSKEY),
+    ("2 comes before 1 in a name write", LINK + LENGTH + PACKET, PACKET + LINK + LENGTH),
+    ("3 comes before 1", LINK + LENGTH + PACKET + PASSKEY, PASSKEY + LINK + LENGTH + PACKET),
+    ("13 comes before 1", LINK + LENGTH + PACKET + PASSKEY + OUTPUT, OUTPUT + LINK + LENGTH + PACKET + PASSKEY),
+    ("13 comes before 2", LENGTH + PACKET + PASSKEY + OUTPUT, OUTPUT + LENGTH + PACKET + PASSKEY),
+    (
+        "13 for the second output comes before 1",
+        LINK + LENGTH + PACKET + PASSKEY + OUTPUT + SECOND,
+        SECOND + LINK + LENGTH + PACKET + PASSKEY + OUTPUT,
+    ),
+    (
+        "13 for the second output comes before 2",
+        LENGTH + PACKET + PASSKEY + OUTPUT + SECOND,
+        SECOND + LENGTH + PACKET + PASSKEY + OUTPUT,
+    ),
+    (
+        "4 comes before 13 for the second output",
+        REFUSED,
+        "    if answer == 13 and len(event.out) >= RESPONSE_SIZE and event.clock < device.clock:\n"
+        "        return drop_all(device), plain_reply(event, 4)\n" + REFUSED,
+    ),
+    (
+        "5 comes before 13 for the second output",
+        REFUSED,
+        "    if answer == 13 and len(event.out) >= RESPONSE_SIZE and device.failures == 10:\n"
+        "        return device, plain_reply(event, 5)\n" + REFUSED,
+    ),
+    ("4 comes before 2 in a name write", REFUSED, earlier(2, 4, "event.clock < device.clock", "drop_all(device)")),
+    ("9 comes before 2 in a name write", REFUSED, earlier(2, 9, "device.links[event.link] is None")),
+    (
+        "10 comes before 2 in a name write",
+        REFUSED,
+        earlier(2, 10, 'device.links[event.link] and device.links[event.link].stage.value == "paired"'),
+    ),
+    ("a packet of 15 bytes is taken", SIZES, SIZES.replace("16", "15")),
+    ("a packet of 16 bytes gets 2", SIZES, SIZES.replace("16", "17")),
+    ("a packet of 80 bytes gets 2", SIZES, SIZES.replace("80", "79")),
+    ("a packet of 81 bytes is taken", SIZES, SIZES.replace("80", "81")),
+    ("2 is left out in name writes", PACKET, ""),
+    (
+        "a packet has 16 or 80 bytes",
+        PACKET,
+        PACKET.replace("not LEAST_PACKET <= len(event.packet) <= MOST_PACKET", "len(event.packet) not in (16, 80)"),
+    ),
+    ("a packet of a wrong size gets 15", PACKET, PACKET.replace("return 2", "return 15")),
+    ("a packet of a wrong size gets 12", PACKET, PACKET.replace("return 2", "return 12")),
+    ("a second output of 79 bytes is taken", "PACKET_ROOM = 80", "PACKET_ROOM = 79"),
+    ("a second output of 80 bytes gets 13", "PACKET_ROOM = 80", "PACKET_ROOM = 81"),
+    ("a second output of 16 bytes is enough", "PACKET_ROOM = 80", "PACKET_ROOM = 16"),
+    ("13 is left out for the second output", SECOND, ""),
+    (
+        "the second output is asked for in requests of 16 bytes alone",
+        SECOND,
+        SECOND.replace("and len(event.packet)", "and len(event.data) == 16 and len(event.packet)"),
+    ),
+    ("a short second output gets 2", SECOND, SECOND.replace("return 13", "return 2")),
     (
         "4 comes before 1, 2, 3 and 13",
         REFUSAL,
@@ -79,7 +146,13 @@ EDITS = (
         "        after, _ = RULES[type(event)](device, event)\n"
         "        return drop_all(after), plain_reply(event, 4)\n",
     ),
-    *((f"{answer} makes no clock step", RULE, no_clock_step(answer)) for answer in (5, 6, 8, 9, 12)),
+    *((f"{answer} makes no clock step", RULE, no_clock_step(answer)) for answer in (5, 6, 8, 9, 12, 15)),
+    (
+        "a taken name write makes no clock step",
+        RULE,
+        "    taken_name = isinstance(event, events.NameWrite) and device.links[event.link]\n"
+        "    return RULES[type(event)](device if taken_name else clock_step(device, event.clock), event)\n",
+    ),
     ("7 makes no clock step", RULE, no_clock_step(7).replace("device if", "after.copy(clock=device.clock) if")),
     (
         "link up drops nothing",

@@ -13,6 +13,7 @@ use lib.Seq.{take-length, drop-length, paste, take-suc, getD-take, drop-drop, le
 use borrow.Author.Tests.{le-leb, lt-leb, eq-eqb, ne-eqb}
 use borrow.Rule.Slice.PartMut.{putMid, same-len-mid}
 use Rattle.laws.proofs.All.{all-get, all-take}
+use Rattle.laws.proofs.Choice.{and-false}
 use Rattle.laws.proofs.Lists.{paste-at, set4-front}
 use Rattle.laws.specs.BigEndian.{number2}
 use Rattle.laws.specs.Choice.{_and_, _or_}
@@ -102,10 +103,6 @@ owned-snoc (x ∷ xs) k =
     rw (member-snoc xs k x, owned-snoc xs k, same-comm (x .bytes) (k .bytes))
     (owned-regroup (eqb (getD (x .bytes) 0 0) 4) (member xs x) (same (k .bytes) (x .bytes)) (owned xs)
     (eqb (getD (k .bytes) 0 0) 4) (member xs k))
-
-and-false : (p : Bool) → (p and false) ≡ false
-and-false true = refl
-and-false false = refl
 
 -- a turn of the loop that reads, by what it finds of the next key
 module _ (b : List ℕ) (i : ℕ) where

@@ -8,7 +8,7 @@ use native.Mathlib.Omega.{arith}
 use lib.Dec.{eqb, eqb→eq, eqb-refl}
 use lib.ListN.{length, drop, getD, drop-of-length-le}
 use borrow.Author.Tests.{eq-eqb, ne-eqb, eqb-true, eqb-false}
-use Rattle.laws.proofs.Choice.{and-left, and-right, is-true, true-is}
+use Rattle.laws.proofs.Choice.{and-false, and-left, and-right, is-true, true-is}
 use Rattle.laws.proofs.Lists.{drop-more}
 use Rattle.laws.specs.Choice.{_and_}
 use Rattle.basics.specs.Bytes.{same}
@@ -30,10 +30,6 @@ same-long [] [] h = absurd (h refl)
 same-long [] (y ∷ ys) h = refl
 same-long (x ∷ xs) [] h = refl
 same-long (x ∷ xs) (y ∷ ys) h = rw (same-long xs ys (λ e. h (omega arith))) (and-false (eqb x y))
-  where
-    and-false : (p : Bool) → (p and false) ≡ false
-    and-false true = refl
-    and-false false = refl
 
 -- one byte more: `equal` says whether those before it are equal
 pub same-more : (equal : Bool) (a b : List ℕ) (i : ℕ) → i < length a → i < length b

@@ -1,4 +1,4 @@
--- Document 01, "Answer numbers".
+-- Document 01, "Answer numbers", and the new answers of document 02.
 -- Assumes nothing.
 use mathlib.Core.Bool.{Bool, false}
 use mathlib.Core.List.{List, [], _∷_}
@@ -6,7 +6,7 @@ use Prim.Native.Nat.{ℕ}
 use lib.Dec.{eqb}
 use Rattle.laws.specs.Choice.{_or_}
 use Rattle.basics.specs.declared.Answer.{Answer}
-use Rattle.basics.specs.declared.Answer.the-variants.{Taken, UnknownLink, WrongLength, PasskeyTooLarge, ClockWentBack, LockedOut, NotInPairingMode, NoKeyFits, SaltSpent, LinkIdle, WrongStage, CapabilityRefused, BadBlock, OutputTooShort, ListMalformed}
+use Rattle.basics.specs.declared.Answer.the-variants.{Taken, UnknownLink, WrongLength, PasskeyTooLarge, ClockWentBack, LockedOut, NotInPairingMode, NoKeyFits, SaltSpent, LinkIdle, WrongStage, CapabilityRefused, BadBlock, OutputTooShort, ListMalformed, NameRefused}
 
 abbrev pub answerNumber : Answer → ℕ
 answerNumber Taken = 0
@@ -24,6 +24,7 @@ answerNumber CapabilityRefused = 11
 answerNumber BadBlock = 12
 answerNumber OutputTooShort = 13
 answerNumber ListMalformed = 14
+answerNumber NameRefused = 15
 
 -- "taken"
 abbrev pub isTaken : Answer → Bool

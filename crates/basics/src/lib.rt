@@ -20,7 +20,7 @@ pub struct Address {
     pub bytes: [u8; 6],
 }
 
-// Document 01's answers, one for each row of its table; `answerNumber` of specs/Answers gives the number.
+// The answers of documents 01 and 02, one for each row of the table; `answerNumber` of specs/Answers gives the number.
 pub enum Answer {
     Taken,
     UnknownLink,
@@ -37,10 +37,11 @@ pub enum Answer {
     BadBlock,
     OutputTooShort,
     ListMalformed,
+    NameRefused,
 }
 
 impl Answer {
-    // Document 01's number of an answer.
+    // The documents' number of an answer.
     pub fn number(self) -> u8
         ensures { λ r. ⌜ r ≡ answerNumber self ⌝ }
     {
@@ -60,6 +61,7 @@ impl Answer {
             Answer::BadBlock => 12,
             Answer::OutputTooShort => 13,
             Answer::ListMalformed => 14,
+            Answer::NameRefused => 15,
         }
     }
 
@@ -133,9 +135,17 @@ pub fn put(out: &mut [u8], at: usize, block: [u8; 16])
     requires { ⌜ at + 16 ≤ length (now out) ⌝ }
     ensures { λ r. ⌜ now (out .exit) ≡ paste (now (out .entry)) at block 16 ⌝ }
 {
+    copy(out, at, &block);
+}
+
+// `part` copied into `out` from `at` on.
+pub fn copy(out: &mut [u8], at: usize, part: &[u8])
+    requires { ⌜ at + length (now part) ≤ length (now out) ⌝ }
+    ensures { λ r. ⌜ now (out .exit) ≡ paste (now (out .entry)) at (now (part .entry)) (length (now (part .entry))) ⌝ }
+{
     let mut i = 0;
-    while i < 16 {
-        out[at + i] = block[i];
+    while i < part.len() {
+        out[at + i] = part[i];
         i += 1;
     }
 }

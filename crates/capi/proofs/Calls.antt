@@ -3,7 +3,7 @@
 use mathlib.Core.Bool.{Bool, true, false}
 use mathlib.Core.List.{List, [], _∷_}
 use mathlib.Core.Logic.{_⊎_, inl, inr, ⊎-elim}
-use mathlib.Core.Path.{_≡_, refl, sym, ap, ap₂, subst, _∙_}
+use mathlib.Core.Path.{_≡_, refl, sym, ap, subst, _∙_}
 use Prim.Native.Nat.{ℕ}
 use native.Mathlib.Omega.{arith}
 use Rattle.account_keys.specs.StoredList.{storedListMax}
@@ -19,14 +19,13 @@ use Rattle.packed.specs.declared.FpOutcome.{FpOutcome}
 use Rattle.packed.specs.declared.FpReply.{FpReply}
 use Rattle.laws.proofs.Padded.{take-padded}
 use Rattle.laws.specs.Choice.{if_then_else_}
+use Rattle.names.specs.Name.{textOf}
 use Rattle.provider.proofs.Theorems.Gap.{gap-only-takes-away}
 use Rattle.provider.proofs.Theorems.Validity.{stays-valid, starts-valid}
-use Rattle.provider.specs.Demands.Gap.{Marked, done, same, added, rules, Lists, Stores, Alike, Lost, Compared, Parting, TwoRuns, Accepts, Quiet, QuietUntilRequest, AfterMarkers, isOf, isRequest, needsKey, anyKind}
+use Rattle.provider.specs.Demands.Gap.{Marked, done, same, added, rules, Lists, Stores, Alike, Lost, Compared, Parting, TwoRuns, QuietUntilRequest, AfterMarkers}
 use Rattle.provider.specs.Demands.Validity.{Valid, written}
-use Rattle.provider.specs.Rules.Event.{Event, Overflow, PowerOn, lent, step, next, answerOf, after}
+use Rattle.provider.specs.Rules.Event.{Event, Overflow, PowerOn, step, next, answerOf, after}
 use Rattle.provider.specs.declared.Device.{Device}
-use Rattle.provider.specs.declared.Reply.{Reply}
-use Rattle.provider.specs.declared.Start.{Start}
 
 -- ---- a call is a step
 
@@ -62,9 +61,17 @@ seen-written : (d : Device) → calls .written (packed d) ≡ written d
 unfolding packed
 seen-written d = take-padded storedListMax 0 (written d)
 
+-- and the name in it the device's
+seen-named : (d : Device) → calls .named (packed d) ≡ textOf (d .name)
+unfolding packed
+seen-named d = refl
+
 module _ (d : Device) (v : Valid d) (e : Event) where
   seen-written-next : calls .written (served (packed d) e .next) ≡ written (next d e)
   seen-written-next = ap (λ (f : FpDevice). calls .written f) (seen-next d v e) ∙ seen-written (next d e)
+
+  seen-named-next : calls .named (served (packed d) e .next) ≡ textOf (next d e .name)
+  seen-named-next = ap (λ (f : FpDevice). calls .named f) (seen-next d v e) ∙ seen-named (next d e)
 
   -- both store the same keys
   to-calls : (k : AccountKey) → Stores rules d e k → Stores calls (packed d) e k
@@ -102,7 +109,9 @@ module _ (d c : Device) (v : Valid d) (w : Valid c) (e : Event) where
   )
 
   parting : Parting rules d c e → Parting calls (packed d) (packed c) e
-  parting p = (p .0, to-calls d v e (p .0) (p .1), λ s. p .2 (to-rules c w e (p .0) s))
+  parting = ⊎-elim
+      (λ p. inl (p .0, to-calls d v e (p .0) (p .1), λ s. p .2 (to-rules c w e (p .0) s)))
+      (λ p. inr (p .0, seen-number d v e ∙ p .1, seen-number c w e ∙ p .2))
 
 -- ---- runs
 
@@ -116,9 +125,10 @@ two-runs (same e m) d c v w r = (
   compared d c v w e (r .0),
   ⊎-elim (λ p. inl (parting d c v w e p)) (λ q. inr (
     seen-written-next d v e ∙ q .0 ∙ sym (seen-written-next c w e),
+    seen-named-next d v e ∙ q .1 ∙ sym (seen-named-next c w e),
     subst (λ (f : FpDevice). TwoRuns calls f (served (packed c) e .next) m) (sym (seen-next d v e))
         (subst (λ (f : FpDevice). TwoRuns calls (packed (next d e)) f m) (sym (seen-next c w e))
-        (two-runs m (next d e) (next c e) (stays-valid d e v) (stays-valid c e w) (q .1))),
+        (two-runs m (next d e) (next c e) (stays-valid d e v) (stays-valid c e w) (q .2))),
   )) (r .1),
 )
 
@@ -157,11 +167,11 @@ taken-is-device f e = go (isDevice f)
     go false h = absurd (omega (arith, h))
 
 pub calls-only-take-away : CallsOnlyTakeAway
-calls-only-take-away f stored start h es fs m =
-    let t = taken-is-device f (PowerOn stored start) h in
+calls-only-take-away f stored name start h es fs m =
+    let t = taken-is-device f (PowerOn stored name start) h in
     let d = deviceOf f in
-    let taken = number-taken (answerOf d (PowerOn stored start)) (t .1) in
-    let s = next d (PowerOn stored start) in
-    let v : Valid s = starts-valid d stored start taken in
-    let r = gap-only-takes-away d stored start taken es fs m in
+    let taken = number-taken (answerOf d (PowerOn stored name start)) (t .1) in
+    let s = next d (PowerOn stored name start) in
+    let v : Valid s = starts-valid d stored name start taken in
+    let r = gap-only-takes-away d stored name start taken es fs m in
     rw (t .0) (two-runs m s s v v (r .0), after-markers es s v (r .1), after-markers fs s v (r .2))

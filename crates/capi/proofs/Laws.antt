@@ -40,7 +40,7 @@ module _ (f : FpDevice) {u : Unpacked} (e : u ≡ record { known = isDevice f; d
     unfolding served
     served-known k h p = rw (known-is k) (p ∙ ap packedOutcome (h ∙ ap (λ d. step d event .gives) device-is))
 
-    pub lent-known : {after : List ℕ} → u .known ≡ true → after ≡ step (u .device) event .leaves → after ≡ lentBack f event
+    pub lent-known : {after : List (List ℕ)} → u .known ≡ true → after ≡ step (u .device) event .leaves → after ≡ lentBack f event
     unfolding lentBack
     lent-known k h = rw (known-is k) (h ∙ ap (λ d. step d event .leaves) device-is)
 

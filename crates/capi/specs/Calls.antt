@@ -28,16 +28,16 @@ abbrev pub returned : FpDevice → FpOutcome
 returned f =
     record {
       next = f;
-      reply = record { answer = notADevice; tried = 0; confirm = 0; bond = noBond };
-      reserved = replicate 6 0;
+      reply = record { answer = notADevice; tried = 0; confirm = 0; packet = 0; bond = noBond };
+      reserved = replicate 5 0;
     }
 
 -- an event: the next device and the answer
 unfoldable pub served : FpDevice → Event → FpOutcome
 served f e = if isDevice f then packedOutcome (step (deviceOf f) e .gives) else returned f
 
--- and the lent output afterwards
-unfoldable pub lentBack : FpDevice → Event → List ℕ
+-- and the lent outputs afterwards
+unfoldable pub lentBack : FpDevice → Event → List (List ℕ)
 lentBack f e = if isDevice f then step (deviceOf f) e .leaves else lent e
 
 abbrev pub noReport : FpReport

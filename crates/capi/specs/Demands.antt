@@ -29,7 +29,7 @@ afterCalls f (e ∷ es) = afterCalls (served f e .next) es
 abbrev pub CallsAreSteps : Type 0
 CallsAreSteps = (d : Device) (es : List Event) → Valid d → afterCalls (packed d) es ≡ packed (after d es)
 
--- what firmware sees of calls: `next.stored` is the list written out
+-- what firmware sees of calls: `next.stored` is the list written out, and `next.name` the name
 abbrev pub calls : Observed FpDevice FpReply
 calls =
     record {
@@ -38,10 +38,11 @@ calls =
       reply = λ f e. served f e .reply;
       leaves = lentBack;
       written = λ f. take (f .stored .length) (f .stored .bytes);
+      named = λ f. take (f .name .length) (f .name .bytes);
     }
 
 -- demand 3 of calls, from any bytes on: both runs start from the device that the same taken power-on gave
 abbrev pub CallsOnlyTakeAway : Type 0
 CallsOnlyTakeAway =
-    (f : FpDevice) (stored : List ℕ) (start : Start) → served f (PowerOn stored start) .reply .answer ≡ 0
-    → OnlyTakesAway calls (served f (PowerOn stored start) .next)
+    (f : FpDevice) (stored name : List ℕ) (start : Start) → served f (PowerOn stored name start) .reply .answer ≡ 0
+    → OnlyTakesAway calls (served f (PowerOn stored name start) .next)

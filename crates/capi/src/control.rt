@@ -25,15 +25,20 @@ pub extern "C" fn fp_off() -> FpDevice
 }
 
 #[no_mangle]
-pub extern "C" fn fp_power_on(device: FpDevice, stored: &[u8], start: Start) -> FpOutcome
-    ensures { λ r. ⌜ r ≡ served device (PowerOn (now (stored .entry)) start) ⌝ }
+pub extern "C" fn fp_power_on(
+    device: FpDevice,
+    stored: &[u8],
+    name: &[u8],
+    start: Start,
+) -> FpOutcome
+    ensures { λ r. ⌜ r ≡ served device (PowerOn (now (stored .entry)) (now (name .entry)) start) ⌝ }
 {
     let from = unpack::unpack(device);
     if !from.known {
         return crate::returned(device);
     }
     let d = from.device;
-    pack::pack_outcome(d.power_on(stored, start))
+    pack::pack_outcome(d.power_on(stored, name, start))
 }
 
 #[no_mangle]

@@ -32,9 +32,10 @@ fn returned(device: FpDevice) -> FpOutcome
             answer: NOT_A_DEVICE,
             tried: 0,
             confirm: 0,
+            packet: 0,
             bond: key_based::no_bond(),
         },
-        reserved: [0u8; 6],
+        reserved: [0u8; 5],
     }
 }
 

@@ -1,4 +1,4 @@
-// Pairing events, the passkey write and the account key write, for C.
+// Pairing events, the passkey write, the account key write and the name write, for C.
 use basics::Link;
 use basics::Moment;
 use packed::FpDevice;
@@ -7,9 +7,10 @@ use packed::pack;
 use packed::unpack;
 ghost use mathlib.Core.Path.{_≡_};
 ghost use mathlib.Core.Bool.{not};
+ghost use mathlib.Core.List.{[], _∷_};
 ghost use lib.Dec.{eqb};
 ghost use Rattle.capi.specs.Calls.{served, lentBack};
-ghost use Rattle.pairing.specs.Pairing.{PairingStarted, ConfirmationNeeded, PasskeyWrite, PairingEnded, AccountKeyWrite};
+ghost use Rattle.pairing.specs.Pairing.{PairingStarted, ConfirmationNeeded, PasskeyWrite, PairingEnded, AccountKeyWrite, NameWrite};
 ghost use Rattle.provider.specs.Rules.Event.{OnLink, OnSession};
 
 #[no_mangle]
@@ -56,7 +57,7 @@ pub extern "C" fn fp_passkey_write(
     out: &mut [u8],
 ) -> FpOutcome
     ensures { λ r. ⌜ r ≡ served device (OnLink link clock (OnSession (PasskeyWrite (now (block .entry)) (now (salt .entry)) (now (out .entry))))) ⌝ }
-    ensures { λ r. ⌜ now (out .exit) ≡ lentBack device (OnLink link clock (OnSession (PasskeyWrite (now (block .entry)) (now (salt .entry)) (now (out .entry))))) ⌝ }
+    ensures { λ r. ⌜ now (out .exit) ∷ [] ≡ lentBack device (OnLink link clock (OnSession (PasskeyWrite (now (block .entry)) (now (salt .entry)) (now (out .entry))))) ⌝ }
 {
     let from = unpack::unpack(device);
     if !from.known {
@@ -94,4 +95,16 @@ pub extern "C" fn fp_account_key_write(
     }
     let d = from.device;
     pack::pack_outcome(d.account_key_write(Link(link), Moment(clock), block))
+}
+
+#[no_mangle]
+pub extern "C" fn fp_name_write(device: FpDevice, link: u8, clock: u64, packet: &[u8]) -> FpOutcome
+    ensures { λ r. ⌜ r ≡ served device (OnLink link clock (OnSession (NameWrite (now (packet .entry))))) ⌝ }
+{
+    let from = unpack::unpack(device);
+    if !from.known {
+        return crate::returned(device);
+    }
+    let d = from.device;
+    pack::pack_outcome(d.name_write(Link(link), Moment(clock), packet))
 }

@@ -7,6 +7,7 @@ use packed::FpDevice;
 use packed::FpOutcome;
 use packed::pack;
 use packed::unpack;
+ghost use mathlib.Core.List.{[], _∷_};
 ghost use mathlib.Core.Path.{_≡_};
 ghost use Rattle.capi.specs.Calls.{elementOf, lentBack, served};
 ghost use Rattle.provider.specs.Rules.Event.{OnLink, KeyBasedWrite};
@@ -19,10 +20,12 @@ pub extern "C" fn fp_key_based_write(
     request: &[u8],
     element: FpElement,
     salt: &[u8; 9],
+    nonce: &[u8; 8],
     out: &mut [u8],
+    packet: &mut [u8],
 ) -> FpOutcome
-    ensures { λ r. ⌜ r ≡ served device (OnLink link clock (KeyBasedWrite (now (request .entry)) (elementOf element) (now (salt .entry)) (now (out .entry)))) ⌝ }
-    ensures { λ r. ⌜ now (out .exit) ≡ lentBack device (OnLink link clock (KeyBasedWrite (now (request .entry)) (elementOf element) (now (salt .entry)) (now (out .entry)))) ⌝ }
+    ensures { λ r. ⌜ r ≡ served device (OnLink link clock (KeyBasedWrite (now (request .entry)) (elementOf element) (now (salt .entry)) (now (nonce .entry)) (now (out .entry)) (now (packet .entry)))) ⌝ }
+    ensures { λ r. ⌜ now (out .exit) ∷ now (packet .exit) ∷ [] ≡ lentBack device (OnLink link clock (KeyBasedWrite (now (request .entry)) (elementOf element) (now (salt .entry)) (now (nonce .entry)) (now (out .entry)) (now (packet .entry)))) ⌝ }
 {
     let from = unpack::unpack(device);
     if !from.known {
@@ -30,7 +33,17 @@ pub extern "C" fn fp_key_based_write(
     }
     let d = from.device;
     let point = read_element(element);
-    pack::pack_outcome(d.key_based_write(Link(link), Moment(clock), request, point, *salt, out))
+    let outcome = d.key_based_write(
+        Link(link),
+        Moment(clock),
+        request,
+        point,
+        *salt,
+        *nonce,
+        out,
+        packet,
+    );
+    pack::pack_outcome(outcome)
 }
 
 fn read_element(element: FpElement) -> Element

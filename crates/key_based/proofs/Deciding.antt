@@ -1,18 +1,20 @@
 -- The ways of a decision, as the functions need them.
 -- Assumes nothing.
 use mathlib.Core.Bool.{Bool, true, false, not}
-use mathlib.Core.List.{List, _++_}
-use mathlib.Core.Path.{_≡_, refl, ap, _∙_}
+use mathlib.Core.List.{List, [], _∷_, _++_}
+use mathlib.Core.Path.{_≡_, refl, sym, ap, _∙_}
 use Prim.Native.Nat.{ℕ, _<_}
 use native.Mathlib.Omega.{arith}
 use lib.ListN.{length, take, drop, getD, length-drop}
 use lib.Seq.{paste, take-all}
 use borrow.Author.Tests.{eqb-false}
+use Rattle.laws.proofs.Choice.{true-is}
 use Rattle.aes128.proofs.Sizes.{length-cipher, length-invCipher}
 use Rattle.basics.specs.Answers.{isTaken}
 use Rattle.basics.specs.declared.Address.{Address}
+use Rattle.basics.specs.declared.Answer.{Answer}
 use Rattle.basics.specs.declared.Answer.the-variants.{LockedOut, NotInPairingMode, NoKeyFits, SaltSpent}
-use Rattle.key_based.specs.Decision.{refused, accepted, saltKnown, settled, triedKeys, unwanted, decided, respondedTo}
+use Rattle.key_based.specs.Decision.{refused, accepted, saltKnown, settled, triedKeys, unwanted, decided, respondedTo, outputsOf}
 use Rattle.account_keys.specs.Keys.{held}
 use Rattle.key_based.specs.Request.{Found, found, nothing, candidates, flagged, saltAt, requestSalt, response}
 use Rattle.key_based.specs.Search.{tried, handedOver}
@@ -21,7 +23,10 @@ use Rattle.key_based.specs.declared.Context.{Context}
 use Rattle.key_based.specs.declared.Decision.{Decision}
 use Rattle.key_based.specs.declared.Element.{Element}
 use Rattle.key_based.specs.declared.Search.{Search}
+use Rattle.additional_data.specs.Packet.{sealed, packetSize}
 use Rattle.laws.specs.Choice.{if_then_else_}
+use Rattle.names.specs.Name.{textOf}
+use Rattle.names.specs.declared.Name.{Name}
 use Rattle.request_guard.specs.Guard as guards
 use Rattle.request_guard.specs.Guard.{Proper, Valid, failedAt}
 use Rattle.request_guard.specs.declared.Guard.{Guard}
@@ -63,12 +68,12 @@ not-locked g v e =
     omega (arith, v .bounded)
 
 -- the response is written exactly if the request is accepted
-module _ (c : Context) (salt out : List ℕ) (r : Decision) where
-  pub output-kept : isTaken (r .answer) ≡ false → out ≡ respondedTo c salt out r
+module _ (a : Answer) (key : List ℕ) (public : Address) (salt out : List ℕ) where
+  pub output-kept : isTaken a ≡ false → out ≡ respondedTo a key public salt out
   output-kept h = rw h
 
-  pub output-written : {b : List ℕ} → isTaken (r .answer) ≡ true → b ≡ response (r .session .key) (c .public) salt
-      → paste out 0 b 16 ≡ respondedTo c salt out r
+  pub output-written : {b : List ℕ} → isTaken a ≡ true → b ≡ response key public salt
+      → paste out 0 b 16 ≡ respondedTo a key public salt out
   unfolding response
   output-written {b} h e =
       let long : length b ≡ 16 = ap length e ∙ length-cipher _ _ in
@@ -124,3 +129,13 @@ decided-way c s t element request =
     go false false true true e = spent
     go false false true false e = taken
         (tried-proper (c .ble) (c .public) (candidates (held (c .keys)) element request) request)
+
+-- a refusal leaves both lent outputs
+module _ (c : Context) (salt nonce out packet : List ℕ) {g : Guard} {s : Session} {t : ℕ} {f : Search} where
+  pub outputs-kept : {r : Decision} → Way g s t f r → isTaken (r .answer) ≡ false
+      → outputsOf c salt nonce out packet r ≡ out ∷ packet ∷ []
+  outputs-kept locked h = refl
+  outputs-kept unasked h = refl
+  outputs-kept (no-fit e) h = refl
+  outputs-kept spent h = refl
+  outputs-kept (taken p) h = absurd (true-is (sym h))

@@ -1,28 +1,33 @@
--- Document 01, "Key-based write": answers 5 to 8, what an accepted request changes, and its response.
+-- Document 01, "Key-based write": answers 5 to 8, what an accepted request changes, and its response; document 02 (i): the packet
+-- with the name.
 -- Assumes nothing.
-use mathlib.Core.Bool.{Bool, not}
-use mathlib.Core.List.{List, _++_}
+use mathlib.Core.Bool.{Bool, false, not}
+use mathlib.Core.List.{List, [], _∷_, _++_}
 use Prim.Native.Nat.{ℕ}
 use lib.ListN.{drop}
 use Rattle.laws.specs.Choice.{if_then_else_, _and_}
 use Rattle.account_keys.specs.Keys.{held}
 use Rattle.basics.specs.Answers.{isTaken}
+use Rattle.basics.specs.declared.Address.{Address}
 use Rattle.basics.specs.declared.Answer.{Answer}
 use Rattle.basics.specs.declared.Answer.the-variants.{Taken, LockedOut, NotInPairingMode, NoKeyFits, SaltSpent}
-use Rattle.key_based.specs.Request.{hasPublicKey, requestSalt, bondAsked, noBond, response}
+use Rattle.key_based.specs.Request.{hasPublicKey, requestSalt, bondAsked, nameAsked, noBond, response}
 use Rattle.key_based.specs.Search.{searched}
 use Rattle.key_based.specs.declared.Context.{Context}
 use Rattle.key_based.specs.declared.Decision.{Decision}
 use Rattle.key_based.specs.declared.Element.{Element}
 use Rattle.key_based.specs.declared.Search.{Search}
+use Rattle.additional_data.specs.Packet.{sealed, packetSize}
+use Rattle.names.specs.Name.{textOf}
+use Rattle.names.specs.declared.Name.{Name}
 use Rattle.request_guard.specs.Guard.{remembered, spent, locked, failedAt, acceptedWith}
 use Rattle.request_guard.specs.declared.Guard.{Guard}
 use Rattle.sessions.specs.declared.Session.{Session}
 use Rattle.sessions.specs.declared.Stage.the-variants.{Asked}
 
--- an answer after n keys that hands out no address; the session stays
+-- an answer after n keys that hands out no address and sends no name; the session stays
 abbrev pub refused : Guard → Session → Answer → ℕ → Decision
-refused g s a n = record { answer = a; tried = n; bond = noBond; guard = g; session = s }
+refused g s a n = record { answer = a; tried = n; bond = noBond; guard = g; session = s; sends = false }
 
 -- "K replaces the link's key, stage asked"
 abbrev pub asked : List ℕ → ℕ → Session
@@ -37,6 +42,7 @@ accepted g t r =
       bond = bondAsked (r .plain);
       guard = acceptedWith (requestSalt (r .plain)) g;
       session = asked (r .key) t;
+      sends = nameAsked (r .plain);
     }
 
 -- 8: "fits, salt remembered"
@@ -66,9 +72,26 @@ decided c s t element request =
     settled (c .guard) s t (triedKeys c element request)
 
 -- "and the response is .. encrypted with K": it stands in front of the lent output, whose other bytes stay
-abbrev pub respondedTo : Context → List ℕ → List ℕ → Decision → List ℕ
-respondedTo c salt out r =
-    if isTaken (r .answer) then response (r .session .key) (c .public) salt ++ drop 16 out else out
+abbrev pub respondedTo : Answer → List ℕ → Address → List ℕ → List ℕ → List ℕ
+respondedTo a key public salt out = if isTaken a then response key public salt ++ drop 16 out else out
 
-abbrev pub requestOutput : Context → Session → ℕ → Element → List ℕ → List ℕ → List ℕ → List ℕ
-requestOutput c s t element request salt out = respondedTo c salt out (decided c s t element request)
+-- document 02 (i): "An accepted request with 0x20 .. writes the packet to a second output"; else its bytes stay
+abbrev pub packetTo : Bool → List ℕ → Name → List ℕ → List ℕ → List ℕ
+packetTo sends key name nonce packet =
+    if sends then sealed key nonce (textOf name) ++ drop (packetSize name) packet else packet
+
+-- the lent outputs after a decision: response and packet
+abbrev pub outputsOf : Context → List ℕ → List ℕ → List ℕ → List ℕ → Decision → List (List ℕ)
+outputsOf c salt nonce out packet r =
+    respondedTo (r .answer) (r .session .key) (c .public) salt out
+    ∷ packetTo (r .sends) (r .session .key) (c .name) nonce packet
+    ∷ []
+
+-- and after a request
+abbrev pub requestOutputs : Context → Session → ℕ → Element → (request salt nonce out packet : List ℕ) → List (List ℕ)
+requestOutputs c s t element request salt nonce out packet =
+    outputsOf c salt nonce out packet (decided c s t element request)
+
+-- "hands out the packet's length"; without 0x20, or refused, it is 0
+abbrev pub packetLength : Bool → Name → ℕ
+packetLength sends name = if sends then packetSize name else 0

@@ -86,6 +86,10 @@ bondAsked plain =
           { bytes = take 6 (drop 8 plain) };
     } else noBond
 
+-- document 02 (i): "Phones set request flag 0x20 and expect the name"
+abbrev pub nameAsked : List ℕ → Bool
+nameAsked plain = flagged 0x20 (getD plain 1 0)
+
 -- "the response is 0x01, public address (6), event salt (9), encrypted with K"
 unfoldable pub response : List ℕ → Address → List ℕ → List ℕ
 response key public salt = cipher key (0x01 ∷ public .bytes ++ salt)

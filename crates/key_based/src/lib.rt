@@ -1,9 +1,10 @@
 // Document 01, "Key-based write", over the block of source document 004, table 1: the keys that are tried, the answer that a request
-// gets, what it changes and its response.
+// gets, what it changes, its response, and the packet with the name (document 02).
 use account_keys::AccountKeys;
 use basics::Address;
 use basics::Answer;
 use basics::Moment;
+use names::Name;
 use request_guard::Guard;
 use request_guard::Salt;
 use sessions::Session;
@@ -15,10 +16,11 @@ ghost use Prim.Native.Nat.{_<_, _≤_};
 ghost use lib.ListN.{length};
 ghost use Rattle.account_keys.specs.Keys.{Kept, limit, held};
 ghost use Rattle.laws.specs.Choice.{_and_};
+ghost use Rattle.names.specs.Name as names;
 ghost use Rattle.request_guard.specs.Guard as guards;
 ghost use Rattle.key_based.specs.Decision as rule;
 ghost use Rattle.key_based.specs.Request as spec;
-ghost use Rattle.key_based.specs.Request.{sized, hasPublicKey, requestSalt, bondAsked, noBond};
+ghost use Rattle.key_based.specs.Request.{sized, hasPublicKey, requestSalt, bondAsked, nameAsked, noBond};
 ghost use Rattle.key_based.specs.Search.{tried, noneFits, handedOver, searched};
 
 // What the secure element made of the public key in an 80-byte request.
@@ -49,15 +51,17 @@ pub struct Context {
     pub pairing: bool,
     pub keys: AccountKeys,
     pub guard: Guard,
+    pub name: Name,
 }
 
-// What a request comes to: the answer, all that it hands out, and the guard and the session afterwards.
+// What a request comes to: the answer, all that it hands out, the guard and the session afterwards, and whether the name is sent.
 pub struct Decision {
     pub answer: Answer,
     pub tried: u8,
     pub bond: Bond,
     pub guard: Guard,
     pub session: Session,
+    pub sends: bool,
 }
 
 // Whether a request has one of the two lengths.
@@ -67,7 +71,8 @@ pub fn is_sized(request: &[u8]) -> bool
     request.len() == 16 || request.len() == 80
 }
 
-// Decides a request; the response stands in front of `out` if it is accepted.
+// Decides a request; if it is accepted, the response stands in front of `out`, and the name's packet, if asked for, in front of
+// `packet`.
 pub fn decide(
     context: Context,
     session: Session,
@@ -75,22 +80,56 @@ pub fn decide(
     request: &[u8],
     element: Element,
     salt: [u8; 9],
+    nonce: [u8; 8],
     out: &mut [u8],
+    packet: &mut [u8],
 ) -> Decision
-    requires { ⌜ Kept (context .keys) × guards.Valid (context .guard) ⌝ }
-    requires { ⌜ (sized (now request) ≡ true) × (16 ≤ length (now out)) ⌝ }
+    requires { ⌜ Kept (context .keys) × guards.Valid (context .guard) × names.Valid (context .name) ⌝ }
+    requires { ⌜ (sized (now request) ≡ true) × (16 ≤ length (now out)) × (80 ≤ length (now packet)) ⌝ }
     ensures { λ r. ⌜ r ≡ rule.decided context session (clock .0) element (now (request .entry)) ⌝ }
-    ensures { λ r. ⌜ now (out .exit) ≡ rule.requestOutput context session (clock .0) element (now (request .entry)) salt (now (out .entry)) ⌝ }
+    ensures { λ r. ⌜ now (out .exit) ∷ now (packet .exit) ∷ [] ≡ rule.requestOutputs context session (clock .0) element (now (request .entry)) salt nonce (now (out .entry)) (now (packet .entry)) ⌝ }
 {
     let decision = decided(context, session, clock, request, element);
     let answer = decision.answer;
-    if !answer.is_taken() {
-        return decision;
-    }
     let key = decision.session.key;
     let address = context.public;
-    basics::put(out, 0, response(key, address, salt));
+    let name = context.name;
+    respond(answer, key, address, salt, out);
+    send_name(decision.sends, key, name, nonce, packet);
     decision
+}
+
+// The length of the packet with the name; 0 where none is sent.
+pub fn packet_length(sends: bool, name: Name) -> u8
+    requires { ⌜ names.Valid name ⌝ }
+    ensures { λ r. ⌜ r ≡ rule.packetLength sends name ⌝ }
+{
+    if !sends {
+        return 0;
+    }
+    additional_data::packet_size(name)
+}
+
+// The response, if the request was accepted.
+fn respond(answer: Answer, key: [u8; 16], public: Address, salt: [u8; 9], out: &mut [u8])
+    requires { ⌜ 16 ≤ length (now out) ⌝ }
+    ensures { λ r. ⌜ now (out .exit) ≡ rule.respondedTo answer key public salt (now (out .entry)) ⌝ }
+{
+    if !answer.is_taken() {
+        return;
+    }
+    basics::put(out, 0, response(key, public, salt));
+}
+
+// The packet with the name, if it is sent.
+fn send_name(sends: bool, key: [u8; 16], name: Name, nonce: [u8; 8], packet: &mut [u8])
+    requires { ⌜ names.Valid name × (80 ≤ length (now packet)) ⌝ }
+    ensures { λ r. ⌜ now (packet .exit) ≡ rule.packetTo sends key name nonce (now (packet .entry)) ⌝ }
+{
+    if !sends {
+        return;
+    }
+    additional_data::seal(key, nonce, name, packet);
 }
 
 // Answers 5 and 6, and then what the keys tried come to.
@@ -143,10 +182,11 @@ fn settled(guard: Guard, session: Session, clock: Moment, search: Search) -> Dec
         bond: bond_asked(plain),
         guard: guard.accepted(salt),
         session: asked(key, clock),
+        sends: name_asked(plain),
     }
 }
 
-// An answer after `tried` keys that hands out no address.
+// An answer after `tried` keys that hands out no address and sends no name.
 fn refused(guard: Guard, session: Session, answer: Answer, tried: u8) -> Decision
     ensures { λ r. ⌜ r ≡ rule.refused guard session answer tried ⌝ }
 {
@@ -156,6 +196,7 @@ fn refused(guard: Guard, session: Session, answer: Answer, tried: u8) -> Decisio
         bond: no_bond(),
         guard: guard,
         session: session,
+        sends: false,
     }
 }
 
@@ -310,6 +351,14 @@ fn bond_asked(plain: [u8; 16]) -> Bond
             ],
         },
     }
+}
+
+// Flag 0x20 asks for the name.
+fn name_asked(plain: [u8; 16]) -> bool
+    ensures { λ r. ⌜ r ≡ nameAsked plain ⌝ }
+{
+    let flags = plain[1];
+    flags & 0x20 != 0
 }
 
 pub fn no_bond() -> Bond

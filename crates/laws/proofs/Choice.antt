@@ -1,8 +1,9 @@
 -- Tests, taken apart and put together.
 -- Assumes nothing.
-use mathlib.Core.Bool.{Bool, true, false}
-use mathlib.Core.Path.{_≡_, refl, subst, sym}
+use mathlib.Core.Bool.{Bool, true, false, not}
+use mathlib.Core.Path.{_≡_, refl, subst, sym, _∙_}
 use lib.Dec.{T}
+use borrow.Author.Tests.{not-true, not-false}
 use Rattle.laws.specs.Choice.{if_then_else_, _and_, _or_}
 
 pub true-is : {b : Bool} → b ≡ true → T b
@@ -27,6 +28,10 @@ pub or-false-right : (a b : Bool) → (a or b) ≡ false → b ≡ false
 or-false-right true b e = absurd (true-is (sym e))
 or-false-right false b e = e
 
+pub and-false : (a : Bool) → (a and false) ≡ false
+and-false true = refl
+and-false false = refl
+
 pub and-left : (a b : Bool) → (a and b) ≡ true → a ≡ true
 and-left true b e = refl
 and-left false b e = e
@@ -41,3 +46,10 @@ passes-left a b t = true-is (and-left a b (is-true (a and b) t))
 
 pub passes-right : (a b : Bool) → T (a and b) → T b
 passes-right a b t = true-is (and-right a b (is-true (a and b) t))
+
+-- the same of a negated test whose answer a is known to be b
+pub negated-true : {a b : Bool} → a ≡ b → not a ≡ true → b ≡ false
+negated-true {a} e t = sym e ∙ not-true a t
+
+pub negated-false : {a b : Bool} → a ≡ b → not a ≡ false → b ≡ true
+negated-false {a} e t = sym e ∙ not-false a t

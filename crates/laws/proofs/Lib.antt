@@ -10,6 +10,8 @@ pub mod Lists
 pub mod Loops
 pub mod Or
 pub mod Padded
+pub mod Parts
+pub mod Rewritten
 pub mod Several
 pub mod Table
 pub mod Xor

@@ -8,10 +8,13 @@ use Rattle.laws.proofs.All.{all-tabulate}
 use Rattle.laws.proofs.Choice.{and-left, and-right}
 use Rattle.laws.specs.Choice.{if_then_else_, _and_}
 use Rattle.account_keys.specs.declared.Reading.{Reading}
+use Rattle.names.proofs.ValidNames.{read-again-valid, valid-reads-again}
+use Rattle.names.specs.Name.{readAgain}
+use Rattle.names.specs.declared.NameReading.{NameReading}
 use Rattle.packed.proofs.Links.{links-back, known-back, session-canonical}
 use Rattle.packed.proofs.StoredKeys.{list-back, list-valid}
 use Rattle.packed.specs.Promises.{ReadsBack, AnyBytes}
-use Rattle.packed.specs.Packed.{noSession, sessionOf, stagesKnown, packedKeys, listOf, isWellFormed, flag, packed, guardOf, numbersKnown, isDevice, withKeysOf, deviceOf}
+use Rattle.packed.specs.Packed.{noSession, sessionOf, stagesKnown, listOf, isWellFormed, flag, packed, guardOf, numbersKnown, isDevice, withParts, deviceOf}
 use Rattle.packed.specs.declared.FpDevice.{FpDevice}
 use Rattle.packed.specs.declared.Unpacked.{Unpacked}
 use Rattle.provider.proofs.Theorems.ValidParts.{off-valid}
@@ -38,6 +41,7 @@ unfolding isDevice packed
 packed-known d v =
     rw (
       ap (λ (r : Reading). r .form) (list-back (d .keys) (v .keys)),
+      ap (λ (r : NameReading). r .good) (valid-reads-again (d .name) (v .name)),
       valid-bounded (d .guard) (v .guard),
       known-back (d .sessions),
       flag-known (d .beacon .pairing),
@@ -50,6 +54,7 @@ packed-reads-back d v = (
   rw (
     packed-known d v,
     ap (λ (r : Reading). r .keys) (list-back (d .keys) (v .keys)),
+    ap (λ (r : NameReading). r .name) (valid-reads-again (d .name) (v .name)),
     links-back (d .sessions) (v .links) (v .sessions),
     valid-cleaned (d .guard) (v .guard),
     flag-back (d .beacon .pairing),
@@ -62,16 +67,20 @@ pub any-bytes : AnyBytes
 unfolding deviceOf isDevice
 any-bytes f = go (isDevice f) refl
   where
-    go : (b : Bool) → isDevice f ≡ b → Valid (if b then withKeysOf f (listOf (f .stored) .keys) else off)
+    go : (b : Bool) → isDevice f ≡ b
+        → Valid (if b then withParts f (listOf (f .stored) .keys) (readAgain (f .name) .name) else off)
     go true h =
-        let known : numbersKnown f ≡ true = and-right (isWellFormed (listOf (f .stored) .form)) (numbersKnown f) h in
+        let formed = isWellFormed (listOf (f .stored) .form) in
+        let named = readAgain (f .name) .good in
+        let known : numbersKnown f ≡ true = and-right named (numbersKnown f) (and-right formed (named and numbersKnown f) h) in
         record {
-          keys = list-valid (f .stored) (and-left (isWellFormed (listOf (f .stored) .form)) (numbersKnown f) h);
+          keys = list-valid (f .stored) (and-left formed (named and numbersKnown f) h);
           links = refl;
           sessions = all-tabulate Canonical linkCount (λ l. sessionOf (getD (f .sessions) l noSession))
               (λ l. session-canonical (getD (f .sessions) l noSession));
           guard = cleaned-valid (guardOf f)
               (and-left (bounded (guardOf f)) (stagesKnown (f .sessions) and leb (f .pairing) 1) known);
+          name = read-again-valid (f .name);
         }
     go false h = off-valid
 
@@ -82,7 +91,7 @@ module _ (f : FpDevice) where
   unfolding deviceOf
   no-device h e = rw h e
 
-  pub a-device : {d : Device} → isDevice f ≡ true → d ≡ withKeysOf f (listOf (f .stored) .keys)
+  pub a-device : {d : Device} → isDevice f ≡ true → d ≡ withParts f (listOf (f .stored) .keys) (readAgain (f .name) .name)
       → _≡_ {A = Unpacked} (record { known = true; device = d }) (record { known = isDevice f; device = deviceOf f })
   unfolding deviceOf
   a-device h e = rw h (λ i. record { known = true; device = e i })
@@ -95,11 +104,19 @@ module _ (f : FpDevice) where
     unfolding isDevice
     list-unknown h = rw (well-formed ∙ h)
 
-    module _ (h : formed ≡ true) {known : Bool} (n : known ≡ numbersKnown f) where
-      pub numbers-unknown : known ≡ false → isDevice f ≡ false
-      unfolding isDevice
-      numbers-unknown k = rw (well-formed ∙ h) (sym n ∙ k)
+    module _ (h : formed ≡ true) {text : NameReading} (r : text ≡ readAgain (f .name)) where
+      name-good : readAgain (f .name) .good ≡ text .good
+      name-good = ap (λ (x : NameReading). x .good) (sym r)
 
-      pub is-device : known ≡ true → isDevice f ≡ true
+      pub name-unknown : text .good ≡ false → isDevice f ≡ false
       unfolding isDevice
-      is-device k = rw (well-formed ∙ h) (sym n ∙ k)
+      name-unknown g = rw (well-formed ∙ h, name-good ∙ g)
+
+      module _ (g : text .good ≡ true) {known : Bool} (n : known ≡ numbersKnown f) where
+        pub numbers-unknown : known ≡ false → isDevice f ≡ false
+        unfolding isDevice
+        numbers-unknown k = rw (well-formed ∙ h, name-good ∙ g) (sym n ∙ k)
+
+        pub is-device : known ≡ true → isDevice f ≡ true
+        unfolding isDevice
+        is-device k = rw (well-formed ∙ h, name-good ∙ g) (sym n ∙ k)

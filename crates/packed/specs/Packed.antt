@@ -22,6 +22,8 @@ use Rattle.packed.specs.declared.FpReport.{FpReport}
 use Rattle.packed.specs.declared.FpSession.{FpSession}
 use Rattle.packed.specs.declared.FpStored.{FpStored}
 use Rattle.basics.specs.Answers.{answerNumber}
+use Rattle.names.specs.Name.{readAgain}
+use Rattle.names.specs.declared.Name.{Name}
 use Rattle.provider.specs.Rules.Control.{off}
 use Rattle.pairing.specs.declared.Confirm.{Confirm}
 use Rattle.pairing.specs.declared.Confirm.the-variants.{Unasked, Yes, No}
@@ -104,6 +106,7 @@ packed d =
       spent = d .guard .spent;
       failed = d .guard .failures .last;
       stored = packedKeys (d .keys);
+      name = d .name;
       identity = d .identity;
       ble = d .beacon .ble;
       salt = d .beacon .salt;
@@ -116,17 +119,17 @@ abbrev pub guardOf : FpDevice → Guard
 guardOf f =
     record { spent = f .spent; failures = record { count = f .failures; last = f .failed } }
 
--- the numbers beside the keys are within what the rules can be served on
+-- the numbers beside the keys and the name are within what the rules can be served on
 abbrev pub numbersKnown : FpDevice → Bool
 numbersKnown f = bounded (guardOf f) and stagesKnown (f .sessions) and leb (f .pairing) 1
 
 -- the bytes that are served as a device; those in places that are not in use do not count
 unfoldable pub isDevice : FpDevice → Bool
-isDevice f = isWellFormed (listOf (f .stored) .form) and numbersKnown f
+isDevice f = isWellFormed (listOf (f .stored) .form) and readAgain (f .name) .good and numbersKnown f
 
--- the device that they are, with its keys
-abbrev pub withKeysOf : FpDevice → AccountKeys → Device
-withKeysOf f keys =
+-- the device that they are, with its keys and its name
+abbrev pub withParts : FpDevice → AccountKeys → Name → Device
+withParts f keys name =
     record {
       clock = f .clock;
       keys = keys;
@@ -134,11 +137,12 @@ withKeysOf f keys =
       guard = cleaned (guardOf f);
       identity = f .identity;
       beacon = record { ble = f .ble; salt = f .salt; pairing = eqb (f .pairing) 1 };
+      name = name;
     }
 
 -- bytes that are not served stand for the value before any device
 unfoldable pub deviceOf : FpDevice → Device
-deviceOf f = if isDevice f then withKeysOf f (listOf (f .stored) .keys) else off
+deviceOf f = if isDevice f then withParts f (listOf (f .stored) .keys) (readAgain (f .name) .name) else off
 
 -- ---- answers
 
@@ -153,11 +157,12 @@ packedReply r =
       answer = answerNumber (r .answer);
       tried = r .tried;
       confirm = confirmNumber (r .confirm);
+      packet = r .packet;
       bond = r .bond;
     }
 
 abbrev pub packedOutcome : Outcome → FpOutcome
-packedOutcome o = record { next = packed (o .next); reply = packedReply (o .reply); reserved = replicate 6 0 }
+packedOutcome o = record { next = packed (o .next); reply = packedReply (o .reply); reserved = replicate 5 0 }
 
 abbrev pub packedReport : Report → FpReport
 packedReport r = record { length = r .length; answer = answerNumber (r .answer); reserved = replicate 7 0 }

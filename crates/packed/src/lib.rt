@@ -7,6 +7,7 @@ use account_keys::STORED_LIST_MAX;
 use basics::Address;
 use basics::Moment;
 use key_based::Bond;
+use names::Name;
 use provider::Device;
 use provider::Identity;
 use request_guard::SpentSalts;
@@ -38,6 +39,7 @@ pub struct FpDevice {
     pub spent: SpentSalts,
     pub failed: Moment,
     pub stored: FpStored,
+    pub name: Name,
     pub identity: Identity,
     pub ble: Address,
     pub salt: [u8; 2],
@@ -46,12 +48,14 @@ pub struct FpDevice {
     pub reserved: [u8; 5],
 }
 
-// All that an answer hands out; `confirm` is 0 where the radio is asked nothing, 1 for yes, 2 for no.
+// All that an answer hands out; `confirm` is 0 where the radio is asked nothing, 1 for yes, 2 for no; `packet` is the length of the
+// packet with the name, 0 where none is sent.
 #[repr(C)]
 pub struct FpReply {
     pub answer: u8,
     pub tried: u8,
     pub confirm: u8,
+    pub packet: u8,
     pub bond: Bond,
 }
 
@@ -59,7 +63,7 @@ pub struct FpReply {
 pub struct FpOutcome {
     pub next: FpDevice,
     pub reply: FpReply,
-    pub reserved: [u8; 6],
+    pub reserved: [u8; 5],
 }
 
 // What became of a text that goes to a lent output, and how many bytes were written.

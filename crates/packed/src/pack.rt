@@ -32,12 +32,14 @@ pub fn pack(device: Device) -> FpDevice
     let identity = device.identity;
     let ble = device.beacon.ble;
     let salt = device.beacon.salt;
+    let name = device.name;
     FpDevice {
         clock: clock,
         sessions: pack_links(sessions),
         spent: spent,
         failed: failed,
         stored: pack_keys(keys),
+        name: name,
         identity: identity,
         ble: ble,
         salt: salt,
@@ -56,7 +58,7 @@ pub fn pack_outcome(outcome: Outcome) -> FpOutcome
     FpOutcome {
         next: pack(next),
         reply: pack_reply(reply),
-        reserved: [0u8; 6],
+        reserved: [0u8; 5],
     }
 }
 
@@ -132,6 +134,7 @@ fn pack_reply(reply: Reply) -> FpReply
         answer: answer.number(),
         tried: reply.tried,
         confirm: confirm_number(confirm),
+        packet: reply.packet,
         bond: bond,
     }
 }

@@ -7,6 +7,7 @@ use account_keys::AccountKeys;
 use account_keys::ListForm;
 use account_keys::Reading;
 use account_keys::STORED_LIST_MAX;
+use names::Name;
 use provider::Beacon;
 use provider::Device;
 use request_guard::Failures;
@@ -30,13 +31,19 @@ pub fn unpack(from: FpDevice) -> Unpacked
     if !is_well_formed(form) {
         return no_device();
     }
+    let given = from.name;
+    let text = given.read_again();
+    if !text.good {
+        return no_device();
+    }
     if !numbers_known(from) {
         return no_device();
     }
     let keys = list.keys;
+    let name = text.name;
     Unpacked {
         known: true,
-        device: with_keys(from, keys),
+        device: with_parts(from, keys, name),
     }
 }
 
@@ -63,9 +70,9 @@ fn numbers_known(from: FpDevice) -> bool
     from.pairing <= 1
 }
 
-fn with_keys(from: FpDevice, keys: AccountKeys) -> Device
+fn with_parts(from: FpDevice, keys: AccountKeys, name: Name) -> Device
     requires { ⌜ spec.numbersKnown from ≡ true ⌝ }
-    ensures { λ r. ⌜ r ≡ spec.withKeysOf from keys ⌝ }
+    ensures { λ r. ⌜ r ≡ spec.withParts from keys name ⌝ }
 {
     let guard = guard_of(from);
     let sessions = from.sessions;
@@ -84,6 +91,7 @@ fn with_keys(from: FpDevice, keys: AccountKeys) -> Device
             salt: salt,
             pairing: from.pairing == 1,
         },
+        name: name,
     }
 }
 

@@ -5,7 +5,6 @@ use mathlib.Core.List.{List, _++_}
 use mathlib.Core.Path.{_≡_, refl, sym, ap, _∙_}
 use native.Mathlib.Omega.{arith}
 use Prim.Native.Nat.{ℕ}
-use lib.Dec.{T}
 use lib.ListN.{length, take, drop, getD}
 use lib.Seq.{paste, take-all}
 use borrow.Author.Tests.{eq-eqb, ne-eqb}
@@ -13,14 +12,16 @@ use Rattle.laws.proofs.Choice.{true-is}
 use Rattle.laws.specs.Choice.{if_then_else_}
 use Rattle.aes128.specs.Cipher.{invCipher}
 use Rattle.basics.specs.Answers.{isTaken}
-use Rattle.basics.specs.declared.Answer.the-variants.{Taken, LinkIdle, WrongStage}
-use Rattle.pairing.specs.Pairing.{answered, dropped, inStage, badBlock, notOpened, openedBlock, passkeyOutput, passkeyResponse}
+use Rattle.basics.specs.declared.Answer.the-variants.{Taken, LinkIdle, WrongStage, NameRefused}
+use Rattle.additional_data.specs.Packet.{opened}
+use Rattle.names.specs.declared.NameReading.{NameReading}
+use Rattle.pairing.specs.Pairing.{answered, dropped, inStage, nameTaken, nameWrite, badBlock, notOpened, openedBlock, passkeyOutput, passkeyResponse}
 use Rattle.pairing.specs.declared.SessionOutcome.{SessionOutcome}
 use Rattle.pairing.specs.declared.Opened.{Opened}
 use Rattle.sessions.specs.Sessions.{isStage}
 use Rattle.sessions.specs.declared.Session.{Session}
 use Rattle.sessions.specs.declared.Stage.{Stage}
-use Rattle.sessions.specs.declared.Stage.the-variants.{Idle}
+use Rattle.sessions.specs.declared.Stage.the-variants.{Idle, Paired}
 
 -- the three ways of a rule in its stage
 module _ (needed : Stage) (rule : Session → SessionOutcome) (s : Session) where
@@ -66,6 +67,26 @@ module _ (needed : Stage) (rule : Session → SessionOutcome) (s : Session) {a :
       go true y q = absurd (true-is q)
       go false false q = absurd (true-is q)
       go false true q = refl
+
+-- the ways of a name write, by the link's stage and by what the packet is read as
+module _ (packet : List ℕ) (s : Session) where
+  pub name-on-idle : isStage (s .stage) Idle ≡ true → nameWrite packet s ≡ answered LinkIdle s
+  unfolding nameWrite
+  name-on-idle h = rw h
+
+  module _ (h : isStage (s .stage) Idle ≡ false) where
+    pub name-on-paired : isStage (s .stage) Paired ≡ true → nameWrite packet s ≡ dropped WrongStage
+    unfolding nameWrite
+    name-on-paired k = rw (h, k)
+
+    module _ (k : isStage (s .stage) Paired ≡ false) {r : NameReading} (e : r ≡ opened (s .key) packet) where
+      pub name-refused : r .good ≡ false → nameWrite packet s ≡ answered NameRefused s
+      unfolding nameWrite
+      name-refused g = rw (h, k, ← e, g)
+
+      pub name-taken : r .good ≡ true → nameWrite packet s ≡ nameTaken s (r .name)
+      unfolding nameWrite
+      name-taken g = rw (h, k, ← e, g)
 
 -- the block that a key opens
 pub opens : (key block : List ℕ) {b p : List ℕ} → length block ≡ 16 → b ≡ take 16 block → p ≡ invCipher key b

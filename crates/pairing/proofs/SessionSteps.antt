@@ -1,11 +1,11 @@
 -- What every pairing, passkey and account key event makes of a session.
 -- Assumes nothing.
 use mathlib.Core.Bool.{Bool, true, false, not}
-use mathlib.Core.List.{List}
+use mathlib.Core.List.{List, [], _∷_}
 use mathlib.Core.Path.{_≡_, refl, sym, ap, _∙_}
 use Prim.Native.Nat.{ℕ}
 use native.Mathlib.Omega.{arith}
-use lib.Dec.{T, eqb, ltb}
+use lib.Dec.{eqb, ltb}
 use lib.ListN.{length, getD}
 use borrow.Author.Tests.{eqb-true, ltb-true, not-false}
 use Rattle.laws.proofs.Choice.{true-is, if-holds, or-false-right}
@@ -14,28 +14,33 @@ use Rattle.account_keys.specs.Keys.{Sized}
 use Rattle.account_keys.specs.declared.AccountKey.{AccountKey}
 use Rattle.aes128.proofs.Sizes.{length-invCipher}
 use Rattle.aes128.specs.Cipher.{invCipher}
-use Rattle.basics.specs.Answers.{answerNumber, isTaken}
+use Rattle.basics.specs.Answers.{answerNumber, isTaken, isOneOf}
 use Rattle.basics.specs.declared.Answer.{Answer}
-use Rattle.basics.specs.declared.Answer.the-variants.{Taken, LinkIdle, WrongStage, CapabilityRefused, BadBlock}
+use Rattle.basics.specs.declared.Answer.the-variants.{Taken, LinkIdle, WrongStage, CapabilityRefused, BadBlock, NameRefused}
+use Rattle.additional_data.proofs.Packet.{opened-valid}
+use Rattle.additional_data.specs.Packet.{opened}
+use Rattle.names.specs.Name as names
+use Rattle.names.specs.declared.NameReading.{NameReading}
 use Rattle.pairing.proofs.Laws as laws
-use Rattle.pairing.specs.Pairing.{PairingEvent, PairingStarted, ConfirmationNeeded, PasskeyWrite, PairingEnded, AccountKeyWrite, answered, dropped, inStage, refusedCapability, begun, confirming, badBlock, passkeyIn, comparedPasskey, openedPasskey, openedAccountKey, pairingFailed, pairingStarted, confirmationNeeded, passkeyWrite, pairingEnded, accountKeyWrite, sessionStep, lent, leaves}
+use Rattle.pairing.specs.Pairing.{PairingEvent, PairingStarted, ConfirmationNeeded, PasskeyWrite, PairingEnded, AccountKeyWrite, NameWrite, isNameWrite, answered, dropped, readName, nameWrite, inStage, refusedCapability, begun, confirming, badBlock, passkeyIn, comparedPasskey, openedPasskey, openedAccountKey, pairingFailed, pairingStarted, confirmationNeeded, passkeyWrite, pairingEnded, accountKeyWrite, sessionStep, lent, leaves}
 use Rattle.pairing.specs.declared.SessionOutcome.{SessionOutcome}
 use Rattle.sessions.specs.Sessions.{Canonical, idle, isStage, stageNumber, becomes}
 use Rattle.sessions.specs.declared.Session.{Session}
 use Rattle.sessions.specs.declared.Stage.{Stage}
 use Rattle.sessions.specs.declared.Stage.the-variants.{Idle, Asked, Pairing, Confirming, Proved, Paired}
 
--- the answers that these events give: 0 and 9 to 12
+-- the answers that these events give: 0, 9 to 12 and 15
 pub data OnSessions : Answer → Type 0 where
   taken : OnSessions Taken
   link-idle : OnSessions LinkIdle
   wrong-stage : OnSessions WrongStage
   capability-refused : OnSessions CapabilityRefused
   bad-block : OnSessions BadBlock
+  name-refused : OnSessions NameRefused
 
--- the session after a refusal: 9 leaves it, and every other one drops it
+-- the session after a refusal: 9 and 15 leave it, and every other one drops it
 abbrev pub refusedSession : Answer → Session → Session
-refusedSession a s = if eqb (answerNumber a) 9 then s else idle
+refusedSession a s = if isOneOf (9 ∷ 15 ∷ []) a then s else idle
 
 -- sixteen bytes that begin with 0x04
 abbrev pub Storable : AccountKey → Type 0
@@ -48,6 +53,7 @@ pub record Lawful (s : Session) (a : SessionOutcome) : Type 0 where
   pub held : isStage (s .stage) Idle ≡ false → eqb (answerNumber (a .answer)) 9 ≡ false
   pub session : Canonical s → Canonical (a .session)
   pub storable : a .stores ≡ true → Storable (a .key)
+  pub name : a .renames ≡ true → names.Valid (a .name)
 
 -- a session in a stage is no idle one
 pub in-a-stage : (s : Session) → ltb 0 (stageNumber (s .stage)) ≡ true → Canonical s
@@ -67,16 +73,19 @@ module _ {s : Session} where
     held = λ _. refl;
     session = λ _. in-a-stage u h;
     storable = λ e. absurd (true-is e);
+    name = λ e. absurd (true-is e);
   }
 
   -- K is dropped
-  lawful-drops : (a : Answer) → OnSessions a → eqb (answerNumber a) 9 ≡ false → Lawful s (dropped a)
-  lawful-drops a o h = record {
+  lawful-drops : (a : Answer) → OnSessions a → isOneOf (9 ∷ 15 ∷ []) a ≡ false → eqb (answerNumber a) 9 ≡ false
+      → Lawful s (dropped a)
+  lawful-drops a o h k = record {
     answer = o;
     refusal = λ _. rw h;
-    held = λ _. h;
+    held = λ _. k;
     session = λ _ _. refl;
     storable = λ e. absurd (true-is e);
+    name = λ e. absurd (true-is e);
   }
 
   -- the link is idle
@@ -87,6 +96,7 @@ module _ {s : Session} where
     held = λ e. absurd (true-is (sym e ∙ h));
     session = λ c. c;
     storable = λ e. absurd (true-is e);
+    name = λ e. absurd (true-is e);
   }
 
   lawful-stage : (needed : Stage) (rule : Session → SessionOutcome) → Lawful s (rule s) → Lawful s (inStage needed rule s)
@@ -97,20 +107,20 @@ module _ {s : Session} where
           → Lawful s (if b then answered LinkIdle s else
           if not (isStage (s .stage) needed) then dropped WrongStage else rule s)
       go true h = lawful-idle h
-      go false h = lawful-if (not (isStage (s .stage) needed)) (lawful-drops WrongStage wrong-stage refl) (λ _. p)
+      go false h = lawful-if (not (isStage (s .stage) needed)) (lawful-drops WrongStage wrong-stage refl refl) (λ _. p)
 
   lawful-failed : Lawful s (pairingFailed s)
   lawful-failed = go (isStage (s .stage) Idle) refl
     where
       go : (b : Bool) → isStage (s .stage) Idle ≡ b → Lawful s (if b then answered LinkIdle s else dropped Taken)
       go true h = lawful-idle h
-      go false h = lawful-drops Taken taken refl
+      go false h = lawful-drops Taken taken refl refl
 
 -- ---- the events
 
 begun-lawful : (t c : ℕ) (s : Session) → Lawful s (begun t c s)
 begun-lawful t c s =
-    lawful-if (refusedCapability c) (lawful-drops CapabilityRefused capability-refused refl)
+    lawful-if (refusedCapability c) (lawful-drops CapabilityRefused capability-refused refl refl)
     (λ _. lawful-stays (becomes Pairing t s) refl)
 
 compared-lawful : (t : ℕ) (s : Session) (plain : List ℕ) → Lawful s (comparedPasskey t s plain)
@@ -123,6 +133,7 @@ compared-lawful t s plain =
       held = λ _. refl;
       session = λ _. in-a-stage (becomes Proved t s) refl;
       storable = λ e. absurd (true-is e);
+      name = λ e. absurd (true-is e);
     })
     (λ _. record {
       answer = taken;
@@ -130,11 +141,12 @@ compared-lawful t s plain =
       held = λ _. refl;
       session = λ _ _. refl;
       storable = λ e. absurd (true-is e);
+      name = λ e. absurd (true-is e);
     })
 
 passkey-lawful : (t : ℕ) (block : List ℕ) (s : Session) → Lawful s (openedPasskey t block s)
 passkey-lawful t block s =
-    lawful-if (badBlock 0x02 (s .key) block) (lawful-drops BadBlock bad-block refl)
+    lawful-if (badBlock 0x02 (s .key) block) (lawful-drops BadBlock bad-block refl refl)
     (λ _. compared-lawful t s (invCipher (s .key) block))
 
 -- a block that is not bad begins as wanted
@@ -145,13 +157,46 @@ begins first key block e =
 
 account-key-lawful : (block : List ℕ) (s : Session) → Lawful s (openedAccountKey block s)
 account-key-lawful block s =
-    lawful-if (badBlock 0x04 (s .key) block) (lawful-drops BadBlock bad-block refl) (λ e. record {
+    lawful-if (badBlock 0x04 (s .key) block) (lawful-drops BadBlock bad-block refl refl) (λ e. record {
       answer = taken;
       refusal = λ h. absurd (true-is (sym h));
       held = λ _. refl;
       session = λ _ _. refl;
       storable = λ _. (length-invCipher (s .key) block, begins 0x04 (s .key) block e);
+      name = λ e. absurd (true-is e);
     })
+
+-- a name that was read, or 15
+name-lawful : (s : Session) (r : NameReading) → names.Valid (r .name) → Lawful s (readName s r)
+name-lawful s r v =
+    lawful-if (r .good)
+    (record {
+      answer = taken;
+      refusal = λ e. absurd (true-is (sym e));
+      held = λ _. refl;
+      session = λ c. c;
+      storable = λ e. absurd (true-is e);
+      name = λ _. v;
+    })
+    (λ _. record {
+      answer = name-refused;
+      refusal = λ _. refl;
+      held = λ _. refl;
+      session = λ c. c;
+      storable = λ e. absurd (true-is e);
+      name = λ e. absurd (true-is e);
+    })
+
+name-write-lawful : (packet : List ℕ) (s : Session) → Lawful s (nameWrite packet s)
+unfolding nameWrite
+name-write-lawful packet s = go (isStage (s .stage) Idle) refl
+  where
+    go : (b : Bool) → isStage (s .stage) Idle ≡ b
+        → Lawful s (if b then answered LinkIdle s else
+        if isStage (s .stage) Paired then dropped WrongStage else readName s (opened (s .key) packet))
+    go true h = lawful-idle h
+    go false h = lawful-if (isStage (s .stage) Paired) (lawful-drops WrongStage wrong-stage refl refl)
+        (λ _. name-lawful s (opened (s .key) packet) (opened-valid (s .key) packet))
 
 pub step-lawful : (e : PairingEvent) (t : ℕ) (s : Session) → Lawful s (sessionStep e t s)
 unfolding pairingStarted confirmationNeeded passkeyWrite pairingEnded accountKeyWrite
@@ -165,6 +210,46 @@ step-lawful (PairingEnded true) t s =
 step-lawful (PairingEnded false) t s = lawful-failed
 step-lawful (AccountKeyWrite block) t s =
     lawful-stage Paired (openedAccountKey block) (account-key-lawful block s)
+step-lawful (NameWrite packet) t s = name-write-lawful packet s
+
+-- ---- a name is changed by a name write alone
+
+record KeepsName (a : SessionOutcome) : Type 0 where
+  kept : a .renames ≡ false
+
+keeps-if : (b : Bool) {x y : SessionOutcome} → KeepsName x → KeepsName y → KeepsName (if b then x else y)
+keeps-if true p q = p
+keeps-if false p q = q
+
+keeps-stage : (needed : Stage) (rule : Session → SessionOutcome) (s : Session) → KeepsName (rule s)
+    → KeepsName (inStage needed rule s)
+unfolding inStage
+keeps-stage needed rule s p =
+    keeps-if (isStage (s .stage) Idle) (record { kept = refl })
+    (keeps-if (not (isStage (s .stage) needed)) (record { kept = refl }) p)
+
+others-keep-name : (e : PairingEvent) (t : ℕ) (s : Session) → isNameWrite e ≡ false → KeepsName (sessionStep e t s)
+unfolding pairingStarted confirmationNeeded passkeyWrite pairingEnded accountKeyWrite comparedPasskey
+others-keep-name (PairingStarted capability) t s h =
+    keeps-stage Asked (begun t capability) s
+    (keeps-if (refusedCapability capability) (record { kept = refl }) (record { kept = refl }))
+others-keep-name (ConfirmationNeeded passkey) t s h =
+    keeps-stage Pairing (λ u. answered Taken (confirming t passkey u)) s (record { kept = refl })
+others-keep-name (PasskeyWrite block salt out) t s h =
+    keeps-stage Confirming (openedPasskey t block) s
+    (keeps-if (badBlock 0x02 (s .key) block) (record { kept = refl })
+    (keeps-if (eqb (passkeyIn (invCipher (s .key) block)) (s .passkey)) (record { kept = refl }) (record { kept = refl })))
+others-keep-name (PairingEnded true) t s h =
+    keeps-stage Proved (λ u. answered Taken (becomes Paired t u)) s (record { kept = refl })
+others-keep-name (PairingEnded false) t s h =
+    keeps-if (isStage (s .stage) Idle) (record { kept = refl }) (record { kept = refl })
+others-keep-name (AccountKeyWrite block) t s h =
+    keeps-stage Paired (openedAccountKey block) s
+    (keeps-if (badBlock 0x04 (s .key) block) (record { kept = refl }) (record { kept = refl }))
+others-keep-name (NameWrite packet) t s h = absurd (true-is (sym h))
+
+pub renames-not : (e : PairingEvent) (t : ℕ) (s : Session) → isNameWrite e ≡ false → sessionStep e t s .renames ≡ false
+renames-not e t s h = others-keep-name e t s h .kept
 
 -- on an idle link every event gets 9, and changes nothing
 module _ (t : ℕ) (s : Session) (h : s .stage ≡ Idle) where
@@ -172,19 +257,22 @@ module _ (t : ℕ) (s : Session) (h : s .stage ≡ Idle) where
   is-idle = ap (λ (x : Stage). isStage x Idle) h
 
   pub idle-step : (e : PairingEvent) → sessionStep e t s ≡ answered LinkIdle s
-  unfolding pairingStarted confirmationNeeded passkeyWrite pairingEnded accountKeyWrite
+  unfolding pairingStarted confirmationNeeded passkeyWrite pairingEnded accountKeyWrite nameWrite
   idle-step (PairingStarted capability) = laws.link-idle Asked (begun t capability) s is-idle
   idle-step (ConfirmationNeeded passkey) = laws.link-idle Pairing (λ u. answered Taken (confirming t passkey u)) s is-idle
   idle-step (PasskeyWrite block salt out) = laws.link-idle Confirming (openedPasskey t block) s is-idle
   idle-step (PairingEnded true) = laws.link-idle Proved (λ u. answered Taken (becomes Paired t u)) s is-idle
   idle-step (PairingEnded false) = rw is-idle
   idle-step (AccountKeyWrite block) = laws.link-idle Paired (openedAccountKey block) s is-idle
+  idle-step (NameWrite packet) = rw is-idle
 
--- a refusal leaves the lent output
+-- a refusal leaves the lent outputs
 pub refusal-leaves : (e : PairingEvent) (t : ℕ) (s : Session) → isTaken (sessionStep e t s .answer) ≡ false
     → leaves e t s ≡ lent e
 refusal-leaves (PairingStarted capability) t s h = refl
 refusal-leaves (ConfirmationNeeded passkey) t s h = refl
-refusal-leaves (PasskeyWrite block salt out) t s h = laws.output-kept salt out s (passkeyWrite t block s) h
+refusal-leaves (PasskeyWrite block salt out) t s h =
+    ap (λ (o : List ℕ). o ∷ []) (laws.output-kept salt out s (passkeyWrite t block s) h)
 refusal-leaves (PairingEnded success) t s h = refl
 refusal-leaves (AccountKeyWrite block) t s h = refl
+refusal-leaves (NameWrite packet) t s h = refl

@@ -1,5 +1,5 @@
--- Document 01: pairing started, confirmation needed, passkey write, pairing ended, account key write. Each is a function of the
--- link's session alone.
+-- Document 01: pairing started, confirmation needed, passkey write, pairing ended, account key write; document 02 (i): name write.
+-- Each is a function of the link's session alone.
 -- Assumes nothing.
 use mathlib.Core.Bool.{Bool, true, false, not}
 use mathlib.Core.List.{List, [], _∷_, _++_}
@@ -10,31 +10,67 @@ use Rattle.laws.specs.BigEndian.{bytes, number3}
 use Rattle.laws.specs.Choice.{if_then_else_, _or_}
 use Rattle.account_keys.specs.Keys.{held, kept, stored, zeroKey}
 use Rattle.account_keys.specs.declared.AccountKeys.{AccountKeys}
+use Rattle.additional_data.specs.Packet.{opened}
 use Rattle.aes128.specs.Cipher.{cipher, invCipher}
 use Rattle.basics.specs.Answers.{isTaken}
 use Rattle.basics.specs.declared.Answer.{Answer}
-use Rattle.basics.specs.declared.Answer.the-variants.{Taken, LinkIdle, WrongStage, CapabilityRefused, BadBlock}
+use Rattle.basics.specs.declared.Answer.the-variants.{Taken, LinkIdle, WrongStage, CapabilityRefused, BadBlock, NameRefused}
+use Rattle.names.specs.Name.{noName}
+use Rattle.names.specs.declared.Name.{Name}
+use Rattle.names.specs.declared.NameReading.{NameReading}
 use Rattle.pairing.specs.declared.SessionOutcome.{SessionOutcome}
 use Rattle.pairing.specs.declared.Opened.{Opened}
+use Rattle.pairing.specs.declared.Confirm.{Confirm}
 use Rattle.pairing.specs.declared.Confirm.the-variants.{Unasked, Yes, No}
 use Rattle.sessions.specs.Sessions.{idle, isStage, becomes}
 use Rattle.sessions.specs.declared.Session.{Session}
 use Rattle.sessions.specs.declared.Stage.{Stage}
 use Rattle.sessions.specs.declared.Stage.the-variants.{Idle, Asked, Pairing, Confirming, Proved, Paired}
 
--- "pairing, passkey and account key events" with their fields; a lent output is the list of its bytes beforehand
+-- "pairing, passkey and account key events" and the name write, with their fields; a lent output is the list of its bytes beforehand
 pub data PairingEvent : Type 0 where
   PairingStarted : (capability : ℕ) → PairingEvent
   ConfirmationNeeded : (passkey : ℕ) → PairingEvent
   PasskeyWrite : (block salt out : List ℕ) → PairingEvent
   PairingEnded : (success : Bool) → PairingEvent
   AccountKeyWrite : (block : List ℕ) → PairingEvent
+  NameWrite : (packet : List ℕ) → PairingEvent
+
+abbrev pub isNameWrite : PairingEvent → Bool
+isNameWrite (PairingStarted capability) = false
+isNameWrite (ConfirmationNeeded passkey) = false
+isNameWrite (PasskeyWrite block salt out) = false
+isNameWrite (PairingEnded success) = false
+isNameWrite (AccountKeyWrite block) = false
+isNameWrite (NameWrite packet) = true
 
 -- ---- what an event makes of a session
 
--- an answer that confirms and stores nothing, and the next session
+-- an answer that confirms, stores and renames nothing, and the next session
 abbrev pub answered : Answer → Session → SessionOutcome
-answered a s = record { answer = a; confirm = Unasked; session = s; stores = false; key = zeroKey }
+answered a s =
+    record {
+      answer = a;
+      confirm = Unasked;
+      session = s;
+      stores = false;
+      key = zeroKey;
+      renames = false;
+      name = noName;
+    }
+
+-- "taken", with a word on the passkey
+abbrev pub confirmed : Confirm → Session → SessionOutcome
+confirmed c s =
+    record {
+      answer = Taken;
+      confirm = c;
+      session = s;
+      stores = false;
+      key = zeroKey;
+      renames = false;
+      name = noName;
+    }
 
 -- "its K dropped"
 abbrev pub dropped : Answer → SessionOutcome
@@ -87,10 +123,7 @@ passkeyIn plain = number3 (getD plain 1 0) (getD plain 2 0) (getD plain 3 0)
 -- "Equal to ours: reply yes, stage proved. Unequal: reply no, K dropped. Either way the answer is 0"
 unfoldable pub comparedPasskey : ℕ → Session → List ℕ → SessionOutcome
 comparedPasskey t s plain =
-    if eqb (passkeyIn plain) (s .passkey) then
-    record { answer = Taken; confirm = Yes; session = becomes Proved t s; stores = false; key = zeroKey }
-    else
-    record { answer = Taken; confirm = No; session = idle; stores = false; key = zeroKey }
+    if eqb (passkeyIn plain) (s .passkey) then confirmed Yes (becomes Proved t s) else confirmed No idle
 
 -- "Passkey write. In confirming, decrypt 16 bytes with K. Byte 0 must be 0x02"
 abbrev pub openedPasskey : ℕ → List ℕ → Session → SessionOutcome
@@ -119,7 +152,16 @@ pairingEnded t success s =
 
 -- the key in an account key block: it is stored, and K is dropped
 abbrev pub keyStored : List ℕ → SessionOutcome
-keyStored plain = record { answer = Taken; confirm = Unasked; session = idle; stores = true; key = record { bytes = plain } }
+keyStored plain =
+    record {
+      answer = Taken;
+      confirm = Unasked;
+      session = idle;
+      stores = true;
+      key = record { bytes = plain };
+      renames = false;
+      name = noName;
+    }
 
 -- "In paired, decrypt 16 bytes. Byte 0 must be 0x04 .. K is dropped whatever the answer from 0 or 9 to 12."
 abbrev pub openedAccountKey : List ℕ → Session → SessionOutcome
@@ -129,6 +171,30 @@ openedAccountKey block s =
 unfoldable pub accountKeyWrite : List ℕ → Session → SessionOutcome
 accountKeyWrite block = inStage Paired (openedAccountKey block)
 
+-- the name in a packet: it is taken, and the session goes on as it was
+abbrev pub nameTaken : Session → Name → SessionOutcome
+nameTaken s name =
+    record {
+      answer = Taken;
+      confirm = Unasked;
+      session = s;
+      stores = false;
+      key = zeroKey;
+      renames = true;
+      name = name;
+    }
+
+-- "a wrong tag or bad UTF-8 gets a new answer 15, old name kept. 0 and 15 keep K, stage and timer."
+abbrev pub readName : Session → NameReading → SessionOutcome
+readName s r = if r .good then nameTaken s (r .name) else answered NameRefused s
+
+-- "A name write is taken from asked to proved, else 9 (idle) or 10 (paired)."
+unfoldable pub nameWrite : List ℕ → Session → SessionOutcome
+nameWrite packet s =
+    if isStage (s .stage) Idle then answered LinkIdle s else
+    if isStage (s .stage) Paired then dropped WrongStage else
+    readName s (opened (s .key) packet)
+
 -- what an event makes of a session at moment t
 abbrev pub sessionStep : PairingEvent → ℕ → Session → SessionOutcome
 sessionStep (PairingStarted capability) t = pairingStarted t capability
@@ -136,23 +202,30 @@ sessionStep (ConfirmationNeeded passkey) t = confirmationNeeded t passkey
 sessionStep (PasskeyWrite block salt out) t = passkeyWrite t block
 sessionStep (PairingEnded success) t = pairingEnded t success
 sessionStep (AccountKeyWrite block) t = accountKeyWrite block
+sessionStep (NameWrite packet) t = nameWrite packet
 
--- the lent output as it was beforehand
-abbrev pub lent : PairingEvent → List ℕ
+-- the lent outputs as they were beforehand
+abbrev pub lent : PairingEvent → List (List ℕ)
 lent (PairingStarted capability) = []
 lent (ConfirmationNeeded passkey) = []
-lent (PasskeyWrite block salt out) = out
+lent (PasskeyWrite block salt out) = out ∷ []
 lent (PairingEnded success) = []
 lent (AccountKeyWrite block) = []
+lent (NameWrite packet) = []
 
--- and as the event leaves it
-abbrev pub leaves : PairingEvent → ℕ → Session → List ℕ
+-- and as the event leaves them
+abbrev pub leaves : PairingEvent → ℕ → Session → List (List ℕ)
 leaves (PairingStarted capability) t s = []
 leaves (ConfirmationNeeded passkey) t s = []
-leaves (PasskeyWrite block salt out) t s = passkeyOutput salt out s (passkeyWrite t block s)
+leaves (PasskeyWrite block salt out) t s = passkeyOutput salt out s (passkeyWrite t block s) ∷ []
 leaves (PairingEnded success) t s = []
 leaves (AccountKeyWrite block) t s = []
+leaves (NameWrite packet) t s = []
 
 -- the account keys after the event
 abbrev pub storedIn : SessionOutcome → AccountKeys → AccountKeys
 storedIn a ks = if a .stores then kept (stored (held ks) (a .key)) else ks
+
+-- the name after the event
+abbrev pub renamedIn : SessionOutcome → Name → Name
+renamedIn a n = if a .renames then a .name else n

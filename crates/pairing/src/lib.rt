@@ -1,18 +1,20 @@
-// The pairing, passkey and account key events of document 01. Each is a function of the link's session alone: what it answers,
-// the next session, and an account key to store.
+// The pairing, passkey and account key events of document 01, and the name write of document 02. Each is a function of the link's
+// session alone: what it answers, the next session, and an account key or a name to keep.
 use account_keys::AccountKey;
 use account_keys::AccountKeys;
 use basics::Answer;
 use basics::Moment;
+use names::Name;
 use sessions::Session;
 use sessions::Stage;
 ghost use mathlib.Core.Path.{_≡_};
+ghost use mathlib.Core.List.{[], _∷_};
 ghost use Prim.Native.Nat.{_<_, _≤_};
 ghost use lib.ListN.{length};
-ghost use Rattle.account_keys.specs.Keys.{Kept, zeroKey};
+ghost use Rattle.account_keys.specs.Keys.{Kept};
 ghost use mathlib.Core.Bool.{false};
 ghost use Rattle.pairing.specs.Pairing as rule;
-ghost use Rattle.pairing.specs.Pairing.{sessionStep, leaves, PairingStarted, ConfirmationNeeded, PasskeyWrite, PairingEnded, AccountKeyWrite};
+ghost use Rattle.pairing.specs.Pairing.{sessionStep, leaves, PairingStarted, ConfirmationNeeded, PasskeyWrite, PairingEnded, AccountKeyWrite, NameWrite};
 
 // Whether the radio is to confirm the passkey.
 pub enum Confirm {
@@ -21,13 +23,15 @@ pub enum Confirm {
     No,
 }
 
-// What an event makes of a session; `key` is zero where it stores none.
+// What an event makes of a session; `key` is zero where it stores none, and `name` is empty where it renames nothing.
 pub struct SessionOutcome {
     pub answer: Answer,
     pub confirm: Confirm,
     pub session: Session,
     pub stores: bool,
     pub key: AccountKey,
+    pub renames: bool,
+    pub name: Name,
 }
 
 // A passkey or account block after decryption; `plain` is zero where it is not as wanted.
@@ -47,6 +51,17 @@ impl SessionOutcome {
         }
         let key = self.key;
         keys.store(key)
+    }
+
+    // The device's name after the event.
+    pub fn renamed_in(self, name: Name) -> Name
+        ensures { λ r. ⌜ r ≡ rule.renamedIn self name ⌝ }
+    {
+        if !self.renames {
+            return name;
+        }
+        let taken = self.name;
+        taken
     }
 }
 
@@ -85,7 +100,7 @@ pub fn passkey_write(
 ) -> SessionOutcome
     requires { ⌜ 16 ≤ length (now out) ⌝ }
     ensures { λ r. ⌜ r ≡ sessionStep (PasskeyWrite (now (block .entry)) salt (now (out .entry))) (clock .0) session ⌝ }
-    ensures { λ r. ⌜ now (out .exit) ≡ leaves (PasskeyWrite (now (block .entry)) salt (now (out .entry))) (clock .0) session ⌝ }
+    ensures { λ r. ⌜ now (out .exit) ∷ [] ≡ leaves (PasskeyWrite (now (block .entry)) salt (now (out .entry))) (clock .0) session ⌝ }
 {
     let outcome = passkey_checked(session, clock, block);
     let answer = outcome.answer;
@@ -126,6 +141,25 @@ pub fn account_key_write(session: Session, block: &[u8]) -> SessionOutcome
     }
     let plain = opened.plain;
     key_stored(plain)
+}
+
+// From asked to proved K, stage and timer stay as they are, whatever the packet holds.
+pub fn name_write(session: Session, packet: &[u8]) -> SessionOutcome
+    ensures { λ r. ⌜ r ≡ sessionStep (NameWrite (now (packet .entry))) 0 session ⌝ }
+{
+    if session.is_in(Stage::Idle) {
+        return answered(Answer::LinkIdle, session);
+    }
+    if session.is_in(Stage::Paired) {
+        return dropped(Answer::WrongStage);
+    }
+    let key = session.key;
+    let opened = additional_data::open(key, packet);
+    if !opened.good {
+        return answered(Answer::NameRefused, session);
+    }
+    let name = opened.name;
+    name_taken(session, name)
 }
 
 // The check of the stage: the answer is `Taken`, and the session as it was, where it is in the stage that the event needs.
@@ -205,7 +239,7 @@ fn compared(session: Session, clock: Moment, plain: [u8; 16]) -> SessionOutcome
 }
 
 fn confirmed(confirm: Confirm, session: Session) -> SessionOutcome
-    ensures { λ r. ⌜ r ≡ record { answer = Answer.Taken; confirm = confirm; session = session; stores = false; key = zeroKey } ⌝ }
+    ensures { λ r. ⌜ r ≡ rule.confirmed confirm session ⌝ }
 {
     SessionOutcome {
         answer: Answer::Taken,
@@ -213,6 +247,8 @@ fn confirmed(confirm: Confirm, session: Session) -> SessionOutcome
         session: session,
         stores: false,
         key: AccountKey { bytes: [0u8; 16] },
+        renames: false,
+        name: Name::none(),
     }
 }
 
@@ -225,6 +261,22 @@ fn key_stored(plain: [u8; 16]) -> SessionOutcome
         session: Session::idle(),
         stores: true,
         key: AccountKey { bytes: plain },
+        renames: false,
+        name: Name::none(),
+    }
+}
+
+fn name_taken(session: Session, name: Name) -> SessionOutcome
+    ensures { λ r. ⌜ r ≡ rule.nameTaken session name ⌝ }
+{
+    SessionOutcome {
+        answer: Answer::Taken,
+        confirm: Confirm::Unasked,
+        session: session,
+        stores: false,
+        key: AccountKey { bytes: [0u8; 16] },
+        renames: true,
+        name: name,
     }
 }
 
@@ -237,6 +289,8 @@ fn answered(answer: Answer, session: Session) -> SessionOutcome
         session: session,
         stores: false,
         key: AccountKey { bytes: [0u8; 16] },
+        renames: false,
+        name: Name::none(),
     }
 }
 

@@ -1,7 +1,7 @@
 -- The checks before an event, as the methods need them.
 -- Assumes nothing.
 use mathlib.Core.Bool.{Bool, true, false, not}
-use mathlib.Core.List.{List, []}
+use mathlib.Core.List.{List, [], _∷_}
 use mathlib.Core.Path.{_≡_, refl, sym, ap, ap₂, _∙_}
 use Prim.Native.Nat.{ℕ, _≤_, _<_}
 use native.Mathlib.Omega.{arith}
@@ -17,17 +17,21 @@ use Rattle.account_keys.specs.declared.ListForm.the-variants.{WellFormed, Malfo
 use Rattle.basics.specs.Answers.{isTaken}
 use Rattle.basics.specs.declared.Answer.{Answer}
 use Rattle.basics.specs.declared.Answer.the-variants.{Taken, UnknownLink, WrongLength, ClockWentBack, OutputTooShort, ListMalformed}
-use Rattle.key_based.specs.Decision.{decided, requestOutput}
+use Rattle.key_based.specs.Decision.{decided, requestOutputs}
 use Rattle.key_based.specs.Request.{sized}
 use Rattle.key_based.specs.declared.Context.{Context}
 use Rattle.key_based.specs.declared.Decision.{Decision}
 use Rattle.key_based.specs.declared.Element.{Element}
+use Rattle.names.specs.Name as names
+use Rattle.names.specs.Name.{isName, nameOf, noName}
+use Rattle.names.specs.declared.Name.{Name}
+use Rattle.names.specs.declared.NameReading.{NameReading}
 use Rattle.pairing.specs.Pairing.{PairingEvent, sessionStep}
 use Rattle.pairing.specs.Pairing as pairing
 use Rattle.pairing.specs.declared.SessionOutcome.{SessionOutcome}
 use Rattle.provider.specs.Demands.Validity.{Valid}
-use Rattle.provider.specs.Rules.Control.{powerOn, started, factoryReset}
-use Rattle.provider.specs.Rules.Device.{Effect, given, answers, takes, dropAll, dropAt, withSessions, withGuard, withKeys, clockStep, inTime, onKnownLink, checkedOf}
+use Rattle.provider.specs.Rules.Control.{powerOn, named, started, factoryReset}
+use Rattle.provider.specs.Rules.Device.{Effect, given, answers, takes, dropAll, dropAt, withSessions, withGuard, withKeys, withName, clockStep, inTime, onKnownLink, checkedOf}
 use Rattle.provider.specs.Rules.Event.{LinkEvent, KeyBasedWrite, OnLink, OnSession, lentOnLink, early, earlyOnSession, requestSize, responseRoom, contextOf, requested, applied, onLink, step}
 use Rattle.provider.specs.declared.Checked.{Checked}
 use Rattle.provider.specs.declared.Device.{Device}
@@ -40,80 +44,80 @@ use Rattle.sessions.specs.declared.Session.{Session}
 use Rattle.sessions.specs.declared.Sessions.{Sessions}
 
 -- the two ways of an event's clock
-module _ (d : Device) (t : ℕ) (out : List ℕ) (rest : Device → Effect) where
-  pub clock-back : t < d .clock .0 → inTime d t out rest ≡ answers (dropAll d) ClockWentBack out
+module _ (d : Device) (t : ℕ) (outs : List (List ℕ)) (rest : Device → Effect) where
+  pub clock-back : t < d .clock .0 → inTime d t outs rest ≡ answers (dropAll d) ClockWentBack outs
   unfolding inTime
   clock-back h = rw (lt-ltb t (d .clock .0) h)
 
-  pub clock-on : d .clock .0 ≤ t → inTime d t out rest ≡ rest (clockStep t d)
+  pub clock-on : d .clock .0 ≤ t → inTime d t outs rest ≡ rest (clockStep t d)
   unfolding inTime
   clock-on h = rw (le-ltb t (d .clock .0) h)
 
 -- the three ways of an event on a link
-module _ (d : Device) (l t : ℕ) (early : Answer) (out : List ℕ) (rest : Device → Effect) where
-  pub unknown-link : 7 < l → onKnownLink d l t early out rest ≡ answers d UnknownLink out
+module _ (d : Device) (l t : ℕ) (early : Answer) (outs : List (List ℕ)) (rest : Device → Effect) where
+  pub unknown-link : 7 < l → onKnownLink d l t early outs rest ≡ answers d UnknownLink outs
   unfolding onKnownLink
   unknown-link h = rw (lt-ltb 7 l h)
 
-  pub refused-early : l ≤ 7 → isTaken early ≡ false → onKnownLink d l t early out rest ≡ answers d early out
+  pub refused-early : l ≤ 7 → isTaken early ≡ false → onKnownLink d l t early outs rest ≡ answers d early outs
   unfolding onKnownLink
   refused-early h e = rw (le-ltb 7 l h, e)
 
-  pub known-link : l ≤ 7 → isTaken early ≡ true → onKnownLink d l t early out rest ≡ inTime d t out rest
+  pub known-link : l ≤ 7 → isTaken early ≡ true → onKnownLink d l t early outs rest ≡ inTime d t outs rest
   unfolding onKnownLink
   known-link h e = rw (le-ltb 7 l h, e)
 
 -- an event that the clock's check handed k over to
 module _ (d : Device) (t : ℕ) {k : Checked} (e : k ≡ checkedOf (inTime d t [] takes .gives)) where
-  pub time-refused : k .passed ≡ false → (out : List ℕ) (rest : Device → Effect)
-      → inTime d t out rest ≡ record { gives = k .outcome; leaves = out }
+  pub time-refused : k .passed ≡ false → (outs : List (List ℕ)) (rest : Device → Effect)
+      → inTime d t outs rest ≡ record { gives = k .outcome; leaves = outs }
   unfolding inTime
-  time-refused h out rest = go (ltb t (d .clock .0)) e
+  time-refused h outs rest = go (ltb t (d .clock .0)) e
     where
       go : (b : Bool)
           → k ≡ checkedOf ((if b then answers (dropAll d) ClockWentBack [] else takes (clockStep t d)) .gives)
-          → (if b then answers (dropAll d) ClockWentBack out else rest (clockStep t d))
-          ≡ record { gives = k .outcome; leaves = out }
-      go true q = λ i. record { gives = sym q i .outcome; leaves = out }
+          → (if b then answers (dropAll d) ClockWentBack outs else rest (clockStep t d))
+          ≡ record { gives = k .outcome; leaves = outs }
+      go true q = λ i. record { gives = sym q i .outcome; leaves = outs }
       go false q = absurd (true-is (sym h ∙ ap (λ (x : Checked). x .passed) q))
 
   pub time-passed : k .passed ≡ true
       → (k .outcome .next ≡ clockStep t d)
-      × ((out : List ℕ) (rest : Device → Effect) → inTime d t out rest ≡ rest (clockStep t d))
+      × ((outs : List (List ℕ)) (rest : Device → Effect) → inTime d t outs rest ≡ rest (clockStep t d))
   unfolding inTime
   time-passed h = go (ltb t (d .clock .0)) e
     where
       go : (b : Bool)
           → k ≡ checkedOf ((if b then answers (dropAll d) ClockWentBack [] else takes (clockStep t d)) .gives)
           → (k .outcome .next ≡ clockStep t d)
-          × ((out : List ℕ) (rest : Device → Effect)
-          → (if b then answers (dropAll d) ClockWentBack out else rest (clockStep t d)) ≡ rest (clockStep t d))
+          × ((outs : List (List ℕ)) (rest : Device → Effect)
+          → (if b then answers (dropAll d) ClockWentBack outs else rest (clockStep t d)) ≡ rest (clockStep t d))
       go true q = absurd (true-is (sym (ap (λ (x : Checked). x .passed) q) ∙ h))
-      go false q = (ap (λ (x : Checked). x .outcome .next) q, λ out rest. refl)
+      go false q = (ap (λ (x : Checked). x .outcome .next) q, λ outs rest. refl)
 
 -- an event on a link that passed its checks: it goes on from the device after the clock step
 pub record Passed (d : Device) (l t : ℕ) (early : Answer) (k : Checked) : Type 0 where
   pub known : l < linkCount
   pub taken : isTaken early ≡ true
   pub next : k .outcome .next ≡ clockStep t d
-  pub rest : (out : List ℕ) (rest : Device → Effect) → onKnownLink d l t early out rest ≡ rest (clockStep t d)
+  pub rest : (outs : List (List ℕ)) (rest : Device → Effect) → onKnownLink d l t early outs rest ≡ rest (clockStep t d)
 
 -- an event on a link that the checks handed k over to
 module _ (d : Device) (l t : ℕ) (early : Answer) {k : Checked}
     (e : k ≡ checkedOf (onKnownLink d l t early [] takes .gives)) where
-  pub link-refused : k .passed ≡ false → (out : List ℕ) (rest : Device → Effect)
-      → onKnownLink d l t early out rest ≡ record { gives = k .outcome; leaves = out }
+  pub link-refused : k .passed ≡ false → (outs : List (List ℕ)) (rest : Device → Effect)
+      → onKnownLink d l t early outs rest ≡ record { gives = k .outcome; leaves = outs }
   unfolding onKnownLink
-  link-refused h out rest = go (ltb 7 l) (isTaken early) e
+  link-refused h outs rest = go (ltb 7 l) (isTaken early) e
     where
       go : (a b : Bool)
           → k ≡ checkedOf ((if a then answers d UnknownLink [] else if not b then answers d early [] else inTime d t
           [] takes) .gives)
-          → (if a then answers d UnknownLink out else if not b then answers d early out else inTime d t out rest)
-          ≡ record { gives = k .outcome; leaves = out }
-      go true b q = λ i. record { gives = sym q i .outcome; leaves = out }
-      go false false q = λ i. record { gives = sym q i .outcome; leaves = out }
-      go false true q = time-refused d t q h out rest
+          → (if a then answers d UnknownLink outs else if not b then answers d early outs else inTime d t outs rest)
+          ≡ record { gives = k .outcome; leaves = outs }
+      go true b q = λ i. record { gives = sym q i .outcome; leaves = outs }
+      go false false q = λ i. record { gives = sym q i .outcome; leaves = outs }
+      go false true q = time-refused d t q h outs rest
 
   pub link-passed : k .passed ≡ true → Passed d l t early k
   unfolding onKnownLink
@@ -132,13 +136,17 @@ module _ (d : Device) (l t : ℕ) (early : Answer) {k : Checked}
             known = omega (arith, small);
             taken = y;
             next = p .0;
-            rest = λ out rest. known-link d l t early out rest small y ∙ p .1 out rest;
+            rest = λ outs rest. known-link d l t early outs rest small y ∙ p .1 outs rest;
           }
 
 -- what the clock step leaves as it was
 pub clock-kept : (d : Device) (t : ℕ) → Valid d → Kept (clockStep t d .keys)
 unfolding clockStep
 clock-kept d t v = v .keys .canonical
+
+pub clock-name : (d : Device) (t : ℕ) → Valid d → names.Valid (clockStep t d .name)
+unfolding clockStep
+clock-name d t v = v .name
 
 pub clock-guard : (d : Device) (t : ℕ) → Valid d → guards.Valid (clockStep t d .guard)
 unfolding clockStep
@@ -177,22 +185,12 @@ module _ (d : Device) (l t : ℕ) (e : PairingEvent) {k : Checked} (p : Passed d
       ap₂ (λ (x : Device) (a : SessionOutcome). applied x l a) (p .next) (r ∙ ap (sessionStep e t) session-after)
       ∙ sym (ap (λ (x : Effect). x .gives) (p .rest (pairing.lent e) (λ x. onLink (OnSession e) x l t)))
 
-  pub session-leaves : {o : List ℕ} → o ≡ pairing.leaves e t s → o ≡ step d (OnLink l t (OnSession e)) .leaves
+  pub session-leaves : {outs : List (List ℕ)} → outs ≡ pairing.leaves e t s → outs ≡ step d (OnLink l t (OnSession e)) .leaves
   session-leaves r =
       r ∙ ap (pairing.leaves e t) session-after
       ∙ sym (ap (λ (x : Effect). x .leaves) (p .rest (pairing.lent e) (λ x. onLink (OnSession e) x l t)))
 
--- checks 2 and 13 of a key-based write
-pub request-sized : (request : List ℕ) (n : ℕ) → isTaken (requestSize request n) ≡ true → (sized request ≡ true) × (16 ≤ n)
-request-sized request n = go (sized request) (ltb n 16) refl refl
-  where
-    go : (a b : Bool) → sized request ≡ a → ltb n 16 ≡ b
-        → isTaken (if not a then WrongLength else if b then OutputTooShort else Taken) ≡ true
-        → (sized request ≡ true) × (16 ≤ n)
-    go false b x y h = absurd (true-is h)
-    go true true x y h = absurd (true-is h)
-    go true false x y h = (x, ltb-false n 16 y)
-
+-- check 13 of a response
 pub room-taken : (n : ℕ) → isTaken (responseRoom n) ≡ true → 16 ≤ n
 room-taken n = go (ltb n 16) refl
   where
@@ -200,46 +198,82 @@ room-taken n = go (ltb n 16) refl
     go true y h = absurd (true-is h)
     go false y h = ltb-false n 16 y
 
+-- checks 2 and 13 of a key-based write
+pub request-sized : (request : List ℕ) (n m : ℕ) → isTaken (requestSize request n m) ≡ true
+    → (sized request ≡ true) × (16 ≤ n) × (80 ≤ m)
+request-sized request n m = go (sized request) (ltb m 80) refl refl
+  where
+    go : (a b : Bool) → sized request ≡ a → ltb m 80 ≡ b
+        → isTaken (if not a then WrongLength else if b then OutputTooShort else responseRoom n) ≡ true
+        → (sized request ≡ true) × (16 ≤ n) × (80 ≤ m)
+    go false b x y h = absurd (true-is h)
+    go true true x y h = absurd (true-is h)
+    go true false x y h = (x, room-taken n h, ltb-false m 80 y)
+
 -- a key-based write that passed its checks
-module _ (d : Device) (l t : ℕ) (request : List ℕ) (element : Element) (salt out : List ℕ) {k : Checked}
-    (p : Passed d l t (requestSize request (length out)) k) {c : Context} (x : c ≡ contextOf (k .outcome .next)) where
+module _ (d : Device) (l t : ℕ) (request : List ℕ) (element : Element) (salt nonce out packet : List ℕ) {k : Checked}
+    (p : Passed d l t (requestSize request (length out) (length packet)) k) {c : Context}
+    (x : c ≡ contextOf (k .outcome .next)) where
   context-after : c ≡ contextOf (clockStep t d)
   context-after = x ∙ ap contextOf (p .next)
 
-  pub context-valid : Valid d → Kept (c .keys) × guards.Valid (c .guard)
-  context-valid v = rw context-after (clock-kept d t v, clock-guard d t v)
+  pub context-valid : Valid d → Kept (c .keys) × guards.Valid (c .guard) × names.Valid (c .name)
+  context-valid v = rw context-after (clock-kept d t v, clock-guard d t v, clock-name d t v)
 
   module _ {s : Session} (q : s ≡ sessionAt (k .outcome .next .sessions) l) where
     same-session : s ≡ sessionAt (clockStep t d .sessions) l
     same-session = q ∙ ap (λ (y : Device). sessionAt (y .sessions) l) (p .next)
 
     pub request-gives : {r : Decision} → r ≡ decided c s t element request
-        → requested (k .outcome .next) l r ≡ step d (OnLink l t (KeyBasedWrite request element salt out)) .gives
+        → requested (k .outcome .next) l r ≡ step d (OnLink l t (KeyBasedWrite request element salt nonce out packet)) .gives
     request-gives r =
         ap₂ (λ (y : Device) (z : Decision). requested y l z) (p .next)
         (r ∙ ap₂ (λ (y : Context) (z : Session). decided y z t element request) context-after same-session)
         ∙ sym (ap (λ (y : Effect). y .gives)
-        (p .rest out (λ y. onLink (KeyBasedWrite request element salt out) y l t)))
+        (p .rest (out ∷ packet ∷ []) (λ y. onLink (KeyBasedWrite request element salt nonce out packet) y l t)))
 
-    pub request-leaves : {o : List ℕ} → o ≡ requestOutput c s t element request salt out
-        → o ≡ step d (OnLink l t (KeyBasedWrite request element salt out)) .leaves
+    pub request-leaves : {outs : List (List ℕ)} → outs ≡ requestOutputs c s t element request salt nonce out packet
+        → outs ≡ step d (OnLink l t (KeyBasedWrite request element salt nonce out packet)) .leaves
     request-leaves r =
-        r ∙ ap₂ (λ (y : Context) (z : Session). requestOutput y z t element request salt out) context-after same-session
+        r ∙ ap₂ (λ (y : Context) (z : Session). requestOutputs y z t element request salt nonce out packet) context-after
+        same-session
         ∙ sym (ap (λ (y : Effect). y .leaves)
-        (p .rest out (λ y. onLink (KeyBasedWrite request element salt out) y l t)))
+        (p .rest (out ∷ packet ∷ []) (λ y. onLink (KeyBasedWrite request element salt nonce out packet) y l t)))
 
--- the two ways of a power-on
-module _ (d : Device) (b : List ℕ) (s : Start) where
-  pub powers-on : reading b .form ≡ WellFormed → powerOn d b s ≡ takes (started (reading b .keys) s)
+-- the two ways of its name, by what it was read as
+module _ (d : Device) (ks : AccountKeys) (n : List ℕ) (s : Start) {r : NameReading} (e : r ≡ names.reading n) where
+  pub bad-name : r .good ≡ false → given d ListMalformed ≡ named d ks n s .gives
+  bad-name g = go (isName n) (ap (λ (x : NameReading). x .good) (sym e) ∙ g)
+    where
+      go : (b : Bool) → (if b then record { good = true; name = nameOf n } else names.notAName) .good ≡ false
+          → given d ListMalformed ≡ (if b then takes (started ks (nameOf n) s) else answers d ListMalformed []) .gives
+      go true q = absurd (true-is (sym q))
+      go false q = refl
+
+  pub good-name : r .good ≡ true → given (started ks (r .name) s) Taken ≡ named d ks n s .gives
+  good-name g =
+      ap (λ (x : NameReading). given (started ks (x .name) s) Taken) e
+      ∙ go (isName n) (ap (λ (x : NameReading). x .good) (sym e) ∙ g)
+    where
+      go : (b : Bool) → (if b then record { good = true; name = nameOf n } else names.notAName) .good ≡ true
+          → given (started ks ((if b then record { good = true; name = nameOf n } else names.notAName) .name) s) Taken
+          ≡ (if b then takes (started ks (nameOf n) s) else answers d ListMalformed []) .gives
+      go true q = refl
+      go false q = absurd (true-is q)
+
+-- the two ways of a power-on's list
+module _ (d : Device) (b n : List ℕ) (s : Start) where
+  pub list-read : reading b .form ≡ WellFormed → powerOn d b n s ≡ named d (reading b .keys) n s
   unfolding powerOn
-  powers-on e = rw e
+  list-read e = rw e
 
-  pub list-malformed : reading b .form ≡ Malformed → powerOn d b s ≡ answers d ListMalformed []
+  pub list-malformed : reading b .form ≡ Malformed → powerOn d b n s ≡ answers d ListMalformed []
   unfolding powerOn
   list-malformed e = rw e
 
 -- what factory reset empties
-pub emptied : (d : Device) {ks : AccountKeys} {ss : Sessions} {g : Guard} → ks ≡ kept [] → ss ≡ allIdle
+pub emptied : (d : Device) {ks : AccountKeys} {ss : Sessions} {g : Guard} {n : Name} → ks ≡ kept [] → ss ≡ allIdle
     → g ≡ guards.fresh
-    → given (withKeys (withGuard (withSessions d ss) g) ks) Taken ≡ given (factoryReset d) Taken
-emptied d e f h = λ i. given (withKeys (withGuard (withSessions d (f i)) (h i)) (e i)) Taken
+    → n ≡ noName
+    → given (withName (withKeys (withGuard (withSessions d ss) g) ks) n) Taken ≡ given (factoryReset d) Taken
+emptied d e f h k = λ i. given (withName (withKeys (withGuard (withSessions d (f i)) (h i)) (e i)) (k i)) Taken

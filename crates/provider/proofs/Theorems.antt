@@ -4,6 +4,7 @@ pub mod AnswerTable
 pub mod EventPairs
 pub mod Gap
 pub mod LinksApart
+pub mod Names
 pub mod Refusals
 pub mod Samples
 pub mod SessionPairs

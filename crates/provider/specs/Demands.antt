@@ -2,6 +2,7 @@
 pub mod AnswerTable
 pub mod Gap
 pub mod LinksApart
+pub mod Names
 pub mod Refusals
 pub mod Samples
 pub mod Validity

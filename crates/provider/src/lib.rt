@@ -10,6 +10,7 @@ use basics::Link;
 use basics::Moment;
 use basics::Report;
 use key_based::Bond;
+use names::Name;
 use pairing::Confirm;
 use request_guard::Guard;
 use sessions::Sessions;
@@ -32,6 +33,8 @@ pub struct Reply {
     pub tried: u8,
     pub bond: Bond,
     pub confirm: Confirm,
+    // the length of the packet with the name; 0 where none is sent
+    pub packet: u8,
 }
 
 // What power-on fixes.
@@ -55,9 +58,10 @@ pub struct Device {
     pub guard: Guard,
     pub identity: Identity,
     pub beacon: Beacon,
+    pub name: Name,
 }
 
-// What power-on is given besides the stored list.
+// What power-on is given besides the stored list and the name.
 #[repr(C)]
 pub struct Start {
     pub identity: Identity,
@@ -97,22 +101,35 @@ impl Device {
                 salt: [0u8; 2],
                 pairing: false,
             },
+            name: Name::none(),
         }
     }
 
-    // Power-on from the stored list; a malformed one leaves the earlier device as it was.
-    pub fn power_on(mut self, stored: &[u8], start: Start) -> Outcome
-        ensures { λ r. ⌜ r ≡ step self (PowerOn (now (stored .entry)) start) .gives ⌝ }
+    // Power-on from the stored list and the name; if one of them is bad, the earlier device stays as it was.
+    pub fn power_on(mut self, stored: &[u8], name: &[u8], start: Start) -> Outcome
+        ensures { λ r. ⌜ r ≡ step self (PowerOn (now (stored .entry)) (now (name .entry)) start) .gives ⌝ }
     {
         let list = account_keys::read(stored);
         let form = list.form;
         match form {
             ListForm::WellFormed => {
                 let keys = list.keys;
-                started(keys, start).answers(Answer::Taken)
+                self.named(keys, name, start)
             }
             ListForm::Malformed => self.answers(Answer::ListMalformed),
         }
+    }
+
+    // Power-on with these keys, if the name is one.
+    fn named(self, keys: AccountKeys, name: &[u8], start: Start) -> Outcome
+        ensures { λ r. ⌜ r ≡ control.named self keys (now (name .entry)) start .gives ⌝ }
+    {
+        let reading = names::read(name);
+        if !reading.good {
+            return self.answers(Answer::ListMalformed);
+        }
+        let text = reading.name;
+        started(keys, text, start).answers(Answer::Taken)
     }
 
     // Events were lost, so no link's key can be trusted any more.
@@ -167,6 +184,7 @@ impl Device {
         self.sessions = Sessions::all_idle();
         self.guard = Guard::new();
         self.keys = AccountKeys::none();
+        self.name = Name::none();
         self.answers(Answer::Taken)
     }
 
@@ -203,6 +221,7 @@ impl Device {
                 tried: 0,
                 bond: key_based::no_bond(),
                 confirm: Confirm::Unasked,
+                packet: 0,
             },
         }
     }
@@ -262,8 +281,8 @@ impl Device {
     }
 }
 
-fn started(keys: AccountKeys, start: Start) -> Device
-    ensures { λ r. ⌜ r ≡ control.started keys start ⌝ }
+fn started(keys: AccountKeys, name: Name, start: Start) -> Device
+    ensures { λ r. ⌜ r ≡ control.started keys name start ⌝ }
 {
     let identity = start.identity;
     let ble = start.ble;
@@ -279,5 +298,6 @@ fn started(keys: AccountKeys, start: Start) -> Device
             salt: salt,
             pairing: false,
         },
+        name: name,
     }
 }

@@ -1,5 +1,5 @@
-// Document 01's events on a link. Each begins with the same checks; then the room that knows the event decides it, and the device
-// takes over what that came to.
+// The events on a link: those of document 01, and the name write of document 02. Each begins with the same checks; then the room
+// that knows the event decides it, and the device takes over what that came to.
 use crate::Device;
 use crate::Outcome;
 use crate::Reply;
@@ -13,9 +13,11 @@ use pairing::Confirm;
 use pairing::SessionOutcome;
 use sessions::Session;
 ghost use mathlib.Core.Path.{_≡_};
+ghost use mathlib.Core.List.{[], _∷_};
 ghost use Prim.Native.Nat.{_<_};
 ghost use Rattle.account_keys.specs.Keys.{Kept};
-ghost use Rattle.pairing.specs.Pairing.{PairingStarted, ConfirmationNeeded, PasskeyWrite, PairingEnded, AccountKeyWrite};
+ghost use Rattle.names.specs.Name as names;
+ghost use Rattle.pairing.specs.Pairing.{PairingStarted, ConfirmationNeeded, PasskeyWrite, PairingEnded, AccountKeyWrite, NameWrite};
 ghost use Rattle.provider.specs.Demands.Validity.{Valid};
 ghost use Rattle.provider.specs.Rules.Event as rule;
 ghost use Rattle.provider.specs.Rules.Event.{step, OnLink, LinkUp, LinkDown, KeyBasedWrite, OnSession};
@@ -80,7 +82,7 @@ impl Device {
     ) -> Outcome
         requires { ⌜ Valid self ⌝ }
         ensures { λ r. ⌜ r ≡ step self (OnLink (link .0) (clock .0) (OnSession (PasskeyWrite (now (block .entry)) salt (now (out .entry))))) .gives ⌝ }
-        ensures { λ r. ⌜ now (out .exit) ≡ step self (OnLink (link .0) (clock .0) (OnSession (PasskeyWrite (now (block .entry)) salt (now (out .entry))))) .leaves ⌝ }
+        ensures { λ r. ⌜ now (out .exit) ∷ [] ≡ step self (OnLink (link .0) (clock .0) (OnSession (PasskeyWrite (now (block .entry)) salt (now (out .entry))))) .leaves ⌝ }
     {
         let checked = self.on_known_link(link, clock, response_room(out.len()));
         if !checked.passed {
@@ -120,6 +122,19 @@ impl Device {
         self.applied(link, pairing::account_key_write(session, block))
     }
 
+    pub fn name_write(mut self, link: Link, clock: Moment, packet: &[u8]) -> Outcome
+        requires { ⌜ Valid self ⌝ }
+        ensures { λ r. ⌜ r ≡ step self (OnLink (link .0) (clock .0) (OnSession (NameWrite (now (packet .entry))))) .gives ⌝ }
+    {
+        let checked = self.on_known_link(link, clock, name_size(packet));
+        if !checked.passed {
+            return checked.outcome;
+        }
+        self = checked.outcome.next;
+        let session = self.sessions.at(link);
+        self.applied(link, pairing::name_write(session, packet))
+    }
+
     pub fn key_based_write(
         mut self,
         link: Link,
@@ -127,13 +142,16 @@ impl Device {
         request: &[u8],
         element: Element,
         salt: [u8; 9],
+        nonce: [u8; 8],
         out: &mut [u8],
+        packet: &mut [u8],
     ) -> Outcome
         requires { ⌜ Valid self ⌝ }
-        ensures { λ r. ⌜ r ≡ step self (OnLink (link .0) (clock .0) (KeyBasedWrite (now (request .entry)) element salt (now (out .entry)))) .gives ⌝ }
-        ensures { λ r. ⌜ now (out .exit) ≡ step self (OnLink (link .0) (clock .0) (KeyBasedWrite (now (request .entry)) element salt (now (out .entry)))) .leaves ⌝ }
+        ensures { λ r. ⌜ r ≡ step self (OnLink (link .0) (clock .0) (KeyBasedWrite (now (request .entry)) element salt nonce (now (out .entry)) (now (packet .entry)))) .gives ⌝ }
+        ensures { λ r. ⌜ now (out .exit) ∷ now (packet .exit) ∷ [] ≡ step self (OnLink (link .0) (clock .0) (KeyBasedWrite (now (request .entry)) element salt nonce (now (out .entry)) (now (packet .entry)))) .leaves ⌝ }
     {
-        let checked = self.on_known_link(link, clock, request_size(request, out.len()));
+        let early = request_size(request, out.len(), packet.len());
+        let checked = self.on_known_link(link, clock, early);
         if !checked.passed {
             return checked.outcome;
         }
@@ -142,7 +160,17 @@ impl Device {
         let context = self.context();
         self.requested(
             link,
-            key_based::decide(context, session, clock, request, element, salt, out),
+            key_based::decide(
+                context,
+                session,
+                clock,
+                request,
+                element,
+                salt,
+                nonce,
+                out,
+                packet,
+            ),
         )
     }
 
@@ -156,8 +184,10 @@ impl Device {
         let session = outcome.session;
         let answer = outcome.answer;
         let confirm = outcome.confirm;
+        let name = self.name;
         self.sessions = sessions.with(link, session);
         self.keys = outcome.stored_in(keys);
+        self.name = outcome.renamed_in(name);
         Outcome {
             next: self,
             reply: Reply {
@@ -165,6 +195,7 @@ impl Device {
                 tried: 0,
                 bond: key_based::no_bond(),
                 confirm: confirm,
+                packet: 0,
             },
         }
     }
@@ -177,18 +208,20 @@ impl Device {
         let public = self.identity.public;
         let keys = self.keys;
         let guard = self.guard;
+        let name = self.name;
         Context {
             ble: ble,
             public: public,
             pairing: self.beacon.pairing,
             keys: keys,
             guard: guard,
+            name: name,
         }
     }
 
     // The device after a request that was decided so.
     fn requested(mut self, link: Link, decision: Decision) -> Outcome
-        requires { ⌜ link .0 < linkCount ⌝ }
+        requires { ⌜ (link .0 < linkCount) × names.Valid (self .name) ⌝ }
         ensures { λ r. ⌜ r ≡ rule.requested self (link .0) decision ⌝ }
     {
         let sessions = self.sessions;
@@ -196,6 +229,8 @@ impl Device {
         let guard = decision.guard;
         let answer = decision.answer;
         let bond = decision.bond;
+        let name = self.name;
+        let packet = key_based::packet_length(decision.sends, name);
         self.sessions = sessions.with(link, session);
         self.guard = guard;
         Outcome {
@@ -205,6 +240,7 @@ impl Device {
                 tried: decision.tried,
                 bond: bond,
                 confirm: Confirm::Unasked,
+                packet: packet,
             },
         }
     }
@@ -230,12 +266,32 @@ fn response_room(length: usize) -> Answer
     Answer::Taken
 }
 
+// Answer 13 of a key-based write: a packet has up to 80 bytes, which are asked for even where none is sent.
+fn outputs_room(response: usize, packet: usize) -> Answer
+    ensures { λ r. ⌜ r ≡ rule.outputsRoom response packet ⌝ }
+{
+    if packet < 80 {
+        return Answer::OutputTooShort;
+    }
+    response_room(response)
+}
+
 // Answers 2 and 13.
-fn request_size(request: &[u8], length: usize) -> Answer
-    ensures { λ r. ⌜ r ≡ rule.requestSize (now (request .entry)) length ⌝ }
+fn request_size(request: &[u8], response: usize, packet: usize) -> Answer
+    ensures { λ r. ⌜ r ≡ rule.requestSize (now (request .entry)) response packet ⌝ }
 {
     if !key_based::is_sized(request) {
         return Answer::WrongLength;
     }
-    response_room(length)
+    outputs_room(response, packet)
+}
+
+// Answer 2 of a name write.
+fn name_size(packet: &[u8]) -> Answer
+    ensures { λ r. ⌜ r ≡ rule.nameSize (now (packet .entry)) ⌝ }
+{
+    if !additional_data::is_sized(packet) {
+        return Answer::WrongLength;
+    }
+    Answer::Taken
 }

@@ -7,7 +7,7 @@ use native.Mathlib.Nat.{mod-lt, add-zero, add-suc, add-mul}
 use native.Mathlib.Numerals.{add-one, add-two, add-three, add-four}
 use native.Mathlib.Omega.{arith}
 use lib.Dec.{lit<}
-use lib.ListN.{length, take, drop, set, getD, replicate, length-drop, length-append, length-replicate, List·getD-append}
+use lib.ListN.{length, take, drop, set, getD, replicate, length-drop, length-append, length-replicate, drop-of-length-le, List·getD-append}
 use lib.Seq.{drop-drop, drop-append-le, take-append-le, paste}
 use Rattle.laws.proofs.Lists.{take-drop-rest}
 use Rattle.laws.proofs.Padded.{padded-full, take-padded, set-padded, paste-padded, padded-replicate}
@@ -17,7 +17,7 @@ use Rattle.sha256.specs.Compression.{nextWord, schedule, round, rounds, 
 use Rattle.sha256.specs.Constants.{K, initialHash}
 use Rattle.sha256.specs.Hash.{hashed, joined, sha256}
 use Rattle.sha256.specs.Padding.{word, words, block, padding, pad}
-use Rattle.sha256.specs.Steps.{lastBlocks}
+use Rattle.sha256.specs.Steps.{lastBlocks, digestRest}
 use Rattle.sha256.specs.declared.Hash.{Hash}
 use Rattle.sha256.specs.declared.LastBlocks.{LastBlocks}
 
@@ -178,28 +178,44 @@ hashed-parts p m t i h =
     (hashed-drop p (m ++ t) i (length (drop (i * 64) m ++ t) / 64)
     ∙ rw (hashed-append p m t i h, drop-append-le (i * 64) m t h))
 
--- the last bytes of a message, as they are lent
-module _ (m : List ℕ) {last : LastBlocks} (e : last ≡ lastBlocks (take (length m - (length m - length m % 64))
-    (drop (length m - length m % 64) m)) (length m)) where
+-- the last bytes of a message of n bytes that ends with m, as they are lent
+module _ (m : List ℕ) (n : ℕ) (ends-m : length m % 64 ≡ n % 64) {last : LastBlocks} (e : last ≡ lastBlocks
+    (take (length m - (length m - length m % 64)) (drop (length m - length m % 64) m)) n) where
   rest : List ℕ
   rest = drop (length m - length m % 64) m
 
-  left : length rest ≡ length m % 64
+  left : length rest ≡ n % 64
   unfolding rest
   left = simp length-drop (omega arith)
 
-  last-is : last ≡ lastBlocks rest (length m)
+  last-is : last ≡ lastBlocks rest n
   unfolding rest
   last-is = e ∙ rw (take-drop-rest (length m - length m % 64) m)
 
   pub end-within : last .end ≤ 128
-  end-within = rw last-is (two-blocks rest (length m) left)
+  end-within = rw last-is (two-blocks rest n left)
 
-  -- the digest is that of the message's whole blocks and then of its last blocks
-  pub sha256-two-parts : {p : Hash} → p ≡ hashed initialHash m (length m / 64)
-      → joined (hashed p (take (last .end) (last .bytes)) (length (take (last .end) (last .bytes)) / 64)) ≡ sha256 m
-  unfolding sha256 pad rest
-  sha256-two-parts h =
+  -- the digest is that of the whole blocks of m and then of the last blocks
+  pub digest-two-parts : (h : Hash) {p : Hash} → p ≡ hashed h m (length m / 64)
+      → joined (hashed p (take (last .end) (last .bytes)) (length (take (last .end) (last .bytes)) / 64))
+      ≡ digestRest h m n
+  unfolding rest
+  digest-two-parts h q =
       let whole : length m - length m % 64 ≡ length m / 64 * 64 = omega arith in
-      ap joined (rw (h, last-is, take-padded 128 0 (rest ++ padding (length m)), whole)
-      (sym (hashed-parts initialHash m (padding (length m)) (length m / 64) (omega arith))))
+      ap joined (rw (q, last-is, take-padded 128 0 (rest ++ padding n), whole)
+      (sym (hashed-parts h m (padding n) (length m / 64) (omega arith))))
+
+-- the digest of a block b and then m
+pub sha256-after : (b m : List ℕ) {p : Hash} → length b ≡ 64 → p ≡ hashed initialHash b (length b / 64)
+    → digestRest p m (64 + length m) ≡ sha256 (b ++ m)
+unfolding sha256 pad
+sha256-after b m k q =
+    let one : length b / 64 ≡ 1 = omega arith in
+    let total : length (b ++ m) ≡ 64 + length m = length-append b m ∙ rw k in
+    let none : drop (1 * 64) b ≡ [] = drop-of-length-le b {i = 1 * 64} (omega arith) in
+    ap joined (rw (q, one, total, append-assoc b m (padding (64 + length m)))
+    (sym (hashed-parts initialHash b (m ++ padding (64 + length m)) 1 (omega arith) ∙ rw none)))
+
+pub length-sha256 : (m : List ℕ) → length (sha256 m) ≡ 32
+unfolding sha256
+length-sha256 m = refl

@@ -2,6 +2,7 @@
 mod compression;
 mod functions;
 
+ghost use mathlib.Core.List.{_++_};
 ghost use mathlib.Core.Path.{_≡_};
 ghost use Prim.Native.Nat.{_+_, _*_, _/_, _%_, _^_, _≤_};
 ghost use lib.ListN.{length};
@@ -9,7 +10,7 @@ ghost use lib.Seq.{paste};
 ghost use Rattle.laws.specs.BigEndian.{bytes};
 ghost use Rattle.sha256.specs.Constants.{initialHash};
 ghost use Rattle.sha256.specs.Hash.{hashed, joined, sha256};
-ghost use Rattle.sha256.specs.Steps.{lastBlocks};
+ghost use Rattle.sha256.specs.Steps.{digestRest, lastBlocks};
 
 // The eight words of a hash value, H0 to H7, or of the working variables a to h.
 pub struct Hash {
@@ -33,13 +34,29 @@ struct LastBlocks {
 pub fn digest(msg: &[u8]) -> [u8; 32]
     ensures { λ r. ⌜ r ≡ sha256 (now (msg .entry)) ⌝ }
 {
-    let n = msg.len();
-    let whole = n - n % 64;
-    let h = absorb(initial(), msg);
-    let last = last_blocks(&msg[whole..], n);
+    digest_rest(initial(), msg, msg.len())
+}
+
+// The digest of `block` and then `msg`, of any length, which is not copied. The sum cannot overflow: a slice has fewer than 2^63 bytes.
+pub fn digest_after(block: [u8; 64], msg: &[u8]) -> [u8; 32]
+    ensures { λ r. ⌜ r ≡ sha256 (block ++ now (msg .entry)) ⌝ }
+{
+    let h = absorb(initial(), &block);
+    digest_rest(h, msg, 64 + msg.len())
+}
+
+// The digest of a message of `n` bytes that ends with `rest`, where the whole blocks before it have left the hash value `h`.
+fn digest_rest(h: Hash, rest: &[u8], n: usize) -> [u8; 32]
+    requires { ⌜ length (now rest) % 64 ≡ n % 64 ⌝ }
+    ensures { λ r. ⌜ r ≡ digestRest h (now (rest .entry)) n ⌝ }
+{
+    let size = rest.len();
+    let whole = size - size % 64;
+    let s = absorb(h, rest);
+    let last = last_blocks(&rest[whole..], n);
     let end = last.end;
     let blocks = last.bytes;
-    to_bytes(absorb(h, &blocks[..end]))
+    to_bytes(absorb(s, &blocks[..end]))
 }
 
 fn initial() -> Hash

@@ -2,10 +2,12 @@
 use crate::cipher::decrypted;
 use crate::cipher::encrypted;
 use crate::hex::line;
+use crate::hmac::authenticated;
 
 pub fn run() {
     one_block();
     anti_spoofing_key();
+    additional_data();
 }
 
 // AES-128 of one block.
@@ -31,4 +33,13 @@ fn first_half(name: &[u8], hash: &[u8]) {
     if 16 <= hash.len() {
         line(name, &hash[0..16]);
     }
+}
+
+// HMAC-SHA256 of a nonce of 8 bytes and the ciphertext of a name: the key is the session key and zeros.
+fn additional_data() {
+    authenticated(
+        b"Fast Pair HMAC-SHA256",
+        b"\x01\x23\x45\x67\x89\xab\xcd\xef\x01\x23\x45\x67\x89\xab\xcd\xef",
+        b"\x00\x01\x02\x03\x04\x05\x06\x07\xee\x4a\x24\x83\x73\x80\x52\xe4\x4e\x9b\x2a\x14\x5e\x5d\xdf\xaa\x44\xb9\xe5\x53\x6a\xf4\x38\xe1\xe5\xc6",
+    );
 }

@@ -5,10 +5,14 @@ mod fast_pair;
 mod filters;
 mod hash;
 mod hex;
+mod hmac;
+mod packets;
 
 fn main() {
     hash::run();
+    hmac::run();
     cipher::run();
     fast_pair::run();
+    packets::run();
     filters::run();
 }

@@ -35,16 +35,19 @@ returns-2 c =
 
 returns-3 : tie.Need-returns-3
 returns-3 c =
-    let at-bond-asked = c .before .before in
+    let at-asked = c .before in
+    let at-accepted = at-asked .before in
+    let at-bond-asked = at-accepted .before in
     let at-if2 = at-bond-asked .before .before in
     let at-is-spent = at-if2 .before in
     let at-request-salt = at-is-spent .before in
     let at-if1 = at-request-salt .before .before in
     let start = at-if1 .before .before in
     rw (
+      c .name-asked .ensures,
       at-bond-asked .bond-asked .ensures,
-      c .before .accepted .ensures,
-      c .asked .ensures,
+      at-accepted .accepted .ensures,
+      at-asked .asked .ensures,
       at-request-salt .request-salt .ensures,
     )
     (sym (request-accepted (start .args .guard) (start .args .session) (start .args .clock .0)
@@ -63,6 +66,7 @@ settled-spec =
     (λ c κs. search needs)
     (λ c κs. search needs)
     returns-2
+    (λ c κs. search needs)
     (λ c κs. search needs)
     (λ c κs. search needs)
     (λ c κs. search needs)

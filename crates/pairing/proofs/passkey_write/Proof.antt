@@ -1,5 +1,5 @@
 -- A response exactly if the answer is 0.
-use mathlib.Core.List.{List, _++_}
+use mathlib.Core.List.{List, [], _∷_, _++_}
 use mathlib.Core.Path.{sym, ap, _∙_}
 use Prim.Native.Nat.{ℕ}
 use lib.ListN.{length, drop}
@@ -17,10 +17,10 @@ returns c =
     let at-passkey-checked = c .before .before in
     let start = at-passkey-checked .before .before .before in (
       at-passkey-checked .passkey-checked .ensures,
-      sym
+      ap (λ (o : List ℕ). o ∷ []) (sym
           (output-kept (start .args .salt) (start .args .out .now) (start .args .session) _
           (ap (λ (a : SessionOutcome). isTaken (a .answer)) (sym (at-passkey-checked .passkey-checked .ensures)) ∙ sym
-          (c .before .is-taken .ensures) ∙ not-true _ (c .if1 .taken))),
+          (c .before .is-taken .ensures) ∙ not-true _ (c .if1 .taken)))),
     )
 
 returns-2 : tie.Need-returns-2
@@ -32,13 +32,13 @@ returns-2 c =
     let at-passkey-checked = at-is-taken .before in
     let start = at-passkey-checked .before .before .before in (
       at-passkey-checked .passkey-checked .ensures,
-      at-put .put .ensures ∙ block-placed (start .args .out .now)
+      ap (λ (o : List ℕ). o ∷ []) (at-put .put .ensures ∙ block-placed (start .args .out .now)
           (at-passkey-response .passkey-response .result)
           (ap length (at-passkey-response .passkey-response .ensures) ∙ length-cipher _ _) ∙ ap
           (λ (r : List ℕ). r ++ drop 16 (start .args .out .now)) (at-passkey-response .passkey-response .ensures) ∙ sym
           (output-written (start .args .salt) (start .args .out .now) (start .args .session) _
           (ap (λ (a : SessionOutcome). isTaken (a .answer)) (sym (at-passkey-checked .passkey-checked .ensures)) ∙ sym
-          (at-is-taken .is-taken .ensures) ∙ not-false _ (at-if1 .if1 .left))),
+          (at-is-taken .is-taken .ensures) ∙ not-false _ (at-if1 .if1 .left)))),
     )
 
 pub passkey-write-spec : {M : Type 1} → statement M

@@ -17,15 +17,15 @@ use Rattle.key_based.specs.Decision.{asked}
 use Rattle.key_based.specs.declared.Decision.{Decision}
 use Rattle.key_based.specs.declared.Search.{Search}
 use Rattle.pairing.proofs.SessionSteps.{idle-step}
-use Rattle.pairing.specs.Pairing.{PairingEvent, sessionStep, storedIn}
+use Rattle.pairing.specs.Pairing.{sessionStep, storedIn}
 use Rattle.pairing.specs.declared.SessionOutcome.{SessionOutcome}
 use Rattle.provider.proofs.Theorems.SessionPairs.{idle-at-clock}
 use Rattle.provider.proofs.Theorems.Stores.{stores-none}
 use Rattle.provider.proofs.Theorems.Ways as event
 use Rattle.provider.proofs.Theorems.Ways.{way}
 use Rattle.provider.specs.Demands.Gap.{isOf, anyKind, isRequest, needsKey, rules, QuietUntilRequest, AfterMarkers}
-use Rattle.provider.specs.Rules.Device.{Effect, dropAll, clockStep}
-use Rattle.provider.specs.Rules.Event.{DeviceEvent, PairingMode, AddressRotated, FactoryReset, LinkEvent, LinkUp, LinkDown, KeyBasedWrite, OnSession, Event, Overflow, OnDevice, OnLink, early, contextOf, requested, applied, onDevice, onLink, next}
+use Rattle.provider.specs.Rules.Device.{Effect, clockStep}
+use Rattle.provider.specs.Rules.Event.{DeviceEvent, PairingMode, AddressRotated, FactoryReset, LinkEvent, LinkUp, LinkDown, KeyBasedWrite, OnSession, Event, OnDevice, OnLink, contextOf, requested, onDevice, onLink, next}
 use Rattle.provider.specs.declared.Device.{Device}
 use Rattle.request_guard.specs.declared.Guard.{Guard}
 use Rattle.sessions.specs.Sessions.{linkCount, idle, absentSession, sessionAt, atClock}
@@ -128,7 +128,7 @@ module _ (d : Device) (l m t : ℕ) (i : IdleAt l d) where
     keys = λ n. refl;
     next = inr (set-idle (d .sessions .links) m l idle (λ p. refl) i);
   }
-  on-link-quiet (KeyBasedWrite request element salt out) = record {
+  on-link-quiet (KeyBasedWrite request element salt nonce out packet) = record {
     refused = λ n. absurd (true-is (and-right (eqb m l) false n));
     keys = λ n. refl;
     next = decision-next (decided-way (contextOf d) (sessionAt (d .sessions) m) t element request);
@@ -156,12 +156,12 @@ is-quiet l d event.marker i = record {
   keys = λ n. absurd (true-is n);
   next = inr (all-idle linkCount l);
 }
-is-quiet l d (event.powered-on stored start h) i = record {
+is-quiet l d (event.powered-on stored name start h n) i = record {
   refused = λ n. absurd (true-is n);
   keys = λ n. absurd (true-is n);
   next = inr (all-idle linkCount l);
 }
-is-quiet l d (event.malformed stored start) i = record {
+is-quiet l d (event.malformed stored name start) i = record {
   refused = λ n. absurd (true-is n);
   keys = λ n. absurd (true-is n);
   next = inr i;

@@ -7,22 +7,24 @@ use Prim.Native.Nat.{ℕ}
 use lib.Dec.{eqb, ltb}
 use lib.ListN.{length}
 use Rattle.laws.specs.Choice.{if_then_else_}
+use Rattle.additional_data.specs.Packet.{opened, packetSized}
+use Rattle.names.specs.Name.{isName, nameOf}
 use Rattle.account_keys.specs.StoredList.{reading}
 use Rattle.account_keys.specs.declared.ListForm.{ListForm}
 use Rattle.account_keys.specs.declared.ListForm.the-variants.{WellFormed, Malformed}
 use Rattle.basics.specs.Answers.{answerNumber, isTaken}
 use Rattle.basics.specs.declared.Answer.{Answer}
-use Rattle.basics.specs.declared.Answer.the-variants.{Taken, UnknownLink, WrongLength, PasskeyTooLarge, ClockWentBack, OutputTooShort, ListMalformed, LinkIdle, WrongStage, CapabilityRefused, BadBlock, LockedOut, NotInPairingMode, NoKeyFits, SaltSpent}
+use Rattle.basics.specs.declared.Answer.the-variants.{Taken, UnknownLink, WrongLength, PasskeyTooLarge, ClockWentBack, OutputTooShort, ListMalformed, LinkIdle, WrongStage, CapabilityRefused, BadBlock, NameRefused, LockedOut, NotInPairingMode, NoKeyFits, SaltSpent}
 use Rattle.key_based.specs.Decision.{refused, accepted, saltKnown, settled, triedKeys, unwanted, decided}
 use Rattle.key_based.specs.Request.{sized}
 use Rattle.key_based.specs.declared.Context.{Context}
 use Rattle.key_based.specs.declared.Element.{Element}
-use Rattle.pairing.specs.Pairing.{PairingEvent, PairingStarted, ConfirmationNeeded, PasskeyWrite, PairingEnded, AccountKeyWrite, answered, dropped, inStage, refusedCapability, begun, badBlock, passkeyIn, comparedPasskey, openedPasskey, openedAccountKey, keyStored, confirming, pairingFailed, pairingStarted, confirmationNeeded, passkeyWrite, pairingEnded, accountKeyWrite, sessionStep}
+use Rattle.pairing.specs.Pairing.{PairingEvent, PairingStarted, ConfirmationNeeded, PasskeyWrite, PairingEnded, AccountKeyWrite, NameWrite, nameTaken, nameWrite, answered, dropped, inStage, refusedCapability, begun, badBlock, passkeyIn, comparedPasskey, openedPasskey, openedAccountKey, confirming, pairingStarted, confirmationNeeded, passkeyWrite, pairingEnded, accountKeyWrite, sessionStep}
 use Rattle.pairing.specs.declared.SessionOutcome.{SessionOutcome}
 use Rattle.provider.specs.Demands.AnswerTable.{Row, row, firstGiven, rowsBeforeClock, rowsOnSession, rowsAfterClock, malformed, rows, AnswerTable}
 use Rattle.provider.specs.Rules.Control.{started, byForm, powerOn}
-use Rattle.provider.specs.Rules.Device.{Effect, answers, takes, dropAll, clockStep, inTime, onKnownLink}
-use Rattle.provider.specs.Rules.Event.{LinkEvent, LinkUp, LinkDown, KeyBasedWrite, OnSession, Event, Overflow, PowerOn, OnDevice, OnLink, lentOnLink, early, contextOf, onDevice, onLink, step}
+use Rattle.provider.specs.Rules.Device.{answers, takes, dropAll, clockStep, inTime, onKnownLink}
+use Rattle.provider.specs.Rules.Event.{LinkEvent, LinkUp, LinkDown, KeyBasedWrite, OnSession, Overflow, PowerOn, OnDevice, OnLink, lentOnLink, early, contextOf, onDevice, onLink}
 use Rattle.provider.specs.declared.Device.{Device}
 use Rattle.request_guard.specs.Guard.{locked, failedAt}
 use Rattle.sessions.specs.Sessions.{isStage, becomes, sessionAt}
@@ -69,7 +71,7 @@ told-compared t s plain = go (eqb (passkeyIn plain) (s .passkey)) _ _ refl refl
     go false x y p q = ap answerNumber q
 
 told-session : (e : PairingEvent) (t : ℕ) (s : Session) → number (sessionStep e t s) ≡ firstGiven (rowsOnSession e s)
-unfolding firstGiven rowsOnSession pairingStarted confirmationNeeded passkeyWrite pairingEnded accountKeyWrite
+unfolding firstGiven rowsOnSession pairingStarted confirmationNeeded passkeyWrite pairingEnded accountKeyWrite nameWrite
 told-session (PairingStarted capability) t s =
     told-stage Asked (begun t capability) s (row 11 (refusedCapability capability) ∷ [])
     (told-drops 11 (refusedCapability capability) CapabilityRefused _ refl refl)
@@ -87,6 +89,17 @@ told-session (PairingEnded false) t s = go (isStage (s .stage) Idle)
 told-session (AccountKeyWrite block) t s =
     told-stage Paired (openedAccountKey block) s (row 12 (badBlock 0x04 (s .key) block) ∷ [])
     (told-drops 12 (badBlock 0x04 (s .key) block) BadBlock _ refl refl)
+told-session (NameWrite packet) t s =
+    go (isStage (s .stage) Idle) (isStage (s .stage) Paired) (opened (s .key) packet .good)
+  where
+    go : (x y z : Bool)
+        → number (if x then answered LinkIdle s else if y then dropped WrongStage else
+        if z then nameTaken s (opened (s .key) packet .name) else answered NameRefused s)
+        ≡ (if x then 9 else if y then 10 else if not z then 15 else 0)
+    go true y z = refl
+    go false true z = refl
+    go false false true = refl
+    go false false false = refl
 
 -- ---- events on a link
 
@@ -119,7 +132,7 @@ told-after-clock : (e : LinkEvent) (d : Device) (l t : ℕ)
 unfolding rowsAfterClock firstGiven
 told-after-clock LinkUp d l t = refl
 told-after-clock LinkDown d l t = refl
-told-after-clock (KeyBasedWrite request element salt out) d l t =
+told-after-clock (KeyBasedWrite request element salt nonce out packet) d l t =
     told-request (contextOf d) (sessionAt (d .sessions) l) t element request
 told-after-clock (OnSession e) d l t = told-session e t (sessionAt (d .sessions) l)
 
@@ -129,14 +142,18 @@ told-early : (e : LinkEvent) (rs : List Row)
 unfolding firstGiven
 told-early LinkUp rs = refl
 told-early LinkDown rs = refl
-told-early (KeyBasedWrite request element salt out) rs = go (sized request) (ltb (length out) 16)
+told-early (KeyBasedWrite request element salt nonce out packet) rs =
+    go (sized request) (ltb (length out) 16) (ltb (length packet) 80)
   where
-    go : (x y : Bool) → (if not x then 2 else if y then 13 else firstGiven rs)
-        ≡ (if isTaken (if not x then WrongLength else if y then OutputTooShort else Taken) then firstGiven rs else
-        answerNumber (if not x then WrongLength else if y then OutputTooShort else Taken))
-    go false y = refl
-    go true true = refl
-    go true false = refl
+    go : (x y z : Bool) → (if not x then 2 else if y then 13 else if z then 13 else firstGiven rs)
+        ≡ (if isTaken (if not x then WrongLength else if z then OutputTooShort else if y then OutputTooShort else Taken)
+        then firstGiven rs else
+        answerNumber (if not x then WrongLength else if z then OutputTooShort else if y then OutputTooShort else Taken))
+    go false y z = refl
+    go true true true = refl
+    go true true false = refl
+    go true false true = refl
+    go true false false = refl
 told-early (OnSession (PairingStarted capability)) rs = refl
 told-early (OnSession (ConfirmationNeeded passkey)) rs = one 3 (ltb 999999 passkey) PasskeyTooLarge rs refl refl
   where
@@ -154,6 +171,13 @@ told-early (OnSession (PasskeyWrite block salt out)) rs = go (ltb (length out) 1
     go false = refl
 told-early (OnSession (PairingEnded success)) rs = refl
 told-early (OnSession (AccountKeyWrite block)) rs = refl
+told-early (OnSession (NameWrite packet)) rs = go (packetSized packet)
+  where
+    go : (b : Bool) → (if not b then 2 else firstGiven rs)
+        ≡ (if isTaken (if not b then WrongLength else Taken) then firstGiven rs else
+        answerNumber (if not b then WrongLength else Taken))
+    go true = refl
+    go false = refl
 
 -- ---- every event
 
@@ -163,13 +187,16 @@ answer-table d Overflow = nothing-left
   where
     nothing-left : 0 ≡ firstGiven []
     nothing-left = refl
-answer-table d (PowerOn stored start) = go (reading stored .form) (started (reading stored .keys) start)
+answer-table d (PowerOn stored name start) =
+    go (reading stored .form) (isName name) (started (reading stored .keys) (nameOf name) start)
   where
-    go : (f : ListForm) (x : Device)
-        → answerNumber (byForm f (takes x) (answers d ListMalformed []) .gives .reply .answer)
-        ≡ firstGiven (row 14 (malformed f) ∷ [])
-    go WellFormed x = refl
-    go Malformed x = refl
+    go : (f : ListForm) (b : Bool) (x : Device)
+        → answerNumber (byForm f (if b then takes x else answers d ListMalformed []) (answers d ListMalformed
+        []) .gives .reply .answer)
+        ≡ firstGiven (row 14 (malformed f) ∷ row 14 (not b) ∷ [])
+    go WellFormed true x = refl
+    go WellFormed false x = refl
+    go Malformed b x = refl
 answer-table d (OnDevice t e) = go (ltb t (d .clock .0))
   where
     go : (b : Bool)

@@ -12,8 +12,9 @@ use Rattle.account_keys.specs.declared.AccountKey.{AccountKey}
 use Rattle.account_keys.specs.declared.AccountKeys.{AccountKeys}
 use Rattle.basics.proofs.Answers.{unlike}
 use Rattle.basics.specs.declared.Answer.the-variants.{Taken, ListMalformed}
+use Rattle.names.specs.Name.{nameOf, textOf}
 use Rattle.provider.proofs.Theorems.AfterMarker.{after-markers}
-use Rattle.provider.proofs.Theorems.EventPairs.{Related, Parted, Paired, before-started, step-pairs}
+use Rattle.provider.proofs.Theorems.EventPairs.{Related, Stored, Parted, by-key, by-name, Paired, before-started, step-pairs}
 use Rattle.provider.proofs.Theorems.SessionPairs.{each-idle}
 use Rattle.provider.proofs.Theorems.Stores.{member-stored, lists, stores-none}
 use Rattle.provider.proofs.Theorems.Ways as event
@@ -21,7 +22,7 @@ use Rattle.provider.proofs.Theorems.Ways.{way}
 use Rattle.provider.specs.Demands.Gap.{Marked, done, same, added, rules, Lists, Stores, Compared, Parting, TwoRuns, GapOnlyTakesAway}
 use Rattle.provider.specs.Demands.Validity.{written}
 use Rattle.provider.specs.Rules.Device.{Effect}
-use Rattle.provider.specs.Rules.Event.{Event, Overflow, PowerOn, lent, step, next, answerOf}
+use Rattle.provider.specs.Rules.Event.{Event, Overflow, PowerOn, step, next, answerOf}
 use Rattle.provider.specs.declared.Device.{Device}
 use Rattle.provider.specs.declared.Start.{Start}
 
@@ -35,6 +36,10 @@ same-keys r = ap (λ (x : Device). x .keys) (r .same)
 same-written : {d c : Device} → Related d c → written c ≡ written d
 same-written r = ap (λ (ks : AccountKeys). writing (held ks)) (same-keys r)
 
+-- and have the same name
+same-named : {d c : Device} → Related d c → textOf (c .name) ≡ textOf (d .name)
+same-named r = ap (λ (x : Device). textOf (x .name)) (r .same)
+
 -- where the runs go on together, both store the same
 stores-same : (d c : Device) (e : Event) → Related d c → Related (next d e) (next c e) → (k : AccountKey)
     → Stores rules c e k
@@ -44,13 +49,17 @@ stores-same d c e r q k s = (
   λ h. s .1 (subst (λ (b : List ℕ). Lists b k) (sym (same-written r)) h),
 )
 
--- where the runs part, the first stores a key and the second none
-module _ (d c : Device) (e : Event) (r : Related d c) (p : Parted (d .keys) (next d e) (next c e)) where
-  parted-none : (k : AccountKey) → Stores rules c e k → ⊥
-  parted-none k = stores-none c e k (p .second ∙ sym (same-keys r))
+-- where the runs part, the second stores no key, and the first stores one or takes a name
+module _ (d c : Device) (e : Event) (r : Related d c) where
+  parted-keys : Parted (d .keys) e (step d e) (step c e) → next c e .keys ≡ d .keys
+  parted-keys (by-key s q) = q
+  parted-keys (by-name w a n q) = q
 
-  parted-stores : Stores rules d e (p .key)
-  parted-stores = (
+  parted-none : Parted (d .keys) e (step d e) (step c e) → (k : AccountKey) → Stores rules c e k → ⊥
+  parted-none p k = stores-none c e k (parted-keys p ∙ sym (same-keys r))
+
+  parted-stores : (p : Stored (d .keys) (next d e)) → Stores rules d e (p .key)
+  parted-stores p = (
     lists (next d e .keys) (p .key) (p .valid)
         ∙ ap (λ (ks : AccountKeys). member (held ks) (p .key)) (p .first)
         ∙ ap (λ (l : List AccountKey). member l (p .key)) (held-kept (stored (held (d .keys)) (p .key)))
@@ -58,15 +67,16 @@ module _ (d c : Device) (e : Event) (r : Related d c) (p : Parted (d .keys) (nex
     λ h. subst T (sym h ∙ lists (d .keys) (p .key) (r .before .valid) ∙ p .new) tt,
   )
 
-  parting : Parting rules d c e
-  parting = (p .key, parted-stores, parted-none (p .key))
+  parting : Parted (d .keys) e (step d e) (step c e) → Parting rules d c e
+  parting (by-key s q) = inl (s .key, parted-stores s, parted-none (by-key s q) (s .key))
+  parting (by-name w a n q) = inr (w, a, n)
 
 -- every event, from related devices on
-paired : (d c : Device) (e : Event) → Related d c → Paired (d .keys) (lent e) (step d e) (step c e)
+paired : (d c : Device) (e : Event) → Related d c → Paired (d .keys) e (step d e) (step c e)
 paired d c e r = rw (r .same) (step-pairs e .paired d (c .sessions) (r .before))
 
 -- what `Compared` asks of every event, the parting included
-compared : (d c : Device) (e : Event) (r : Related d c) → Paired (d .keys) (lent e) (step d e) (step c e)
+compared : (d c : Device) (e : Event) (r : Related d c) → Paired (d .keys) e (step d e) (step c e)
     → Compared rules d c e
 compared d c e r a =
     (a .seen, ⊎-elim (stores-same d c e r) (λ p k s. absurd (parted-none d c e r p k s)) (a .next))
@@ -85,24 +95,25 @@ two-runs : {es fs : List Event} (m : Marked es fs) (d c : Device) → Related d 
 two-runs done d c r = tt
 two-runs (added m) d c r = two-runs m d (next c Overflow) (marker-added d c r)
 two-runs (same e m) d c r =
-    let a : Paired (d .keys) (lent e) (step d e) (step c e) = paired d c e r in (
+    let a : Paired (d .keys) e (step d e) (step c e) = paired d c e r in (
       compared d c e r a,
-      ⊎-elim (λ q. inr (sym (same-written q), two-runs m (next d e) (next c e) q))
+      ⊎-elim (λ q. inr (sym (same-written q), sym (same-named q), two-runs m (next d e) (next c e) q))
           (λ p. inl (parting d c e r p))
           (a .next),
     )
 
 -- the state that a taken power-on gave, in both runs
-started-related : (d : Device) (stored : List ℕ) (start : Start) → answerOf d (PowerOn stored start) ≡ Taken
-    → Related (next d (PowerOn stored start)) (next d (PowerOn stored start))
-started-related d stored start = go (way d (PowerOn stored start))
+started-related : (d : Device) (stored name : List ℕ) (start : Start) → answerOf d (PowerOn stored name start) ≡ Taken
+    → Related (next d (PowerOn stored name start)) (next d (PowerOn stored name start))
+started-related d stored name start = go (way d (PowerOn stored name start))
   where
-    go : {x : Effect} → event.Way d (PowerOn stored start) x → x .gives .reply .answer ≡ Taken
+    go : {x : Effect} → event.Way d (PowerOn stored name start) x → x .gives .reply .answer ≡ Taken
         → Related (x .gives .next) (x .gives .next)
-    go (event.powered-on stored start h) e = record { same = refl; before = before-started stored start h }
-    go (event.malformed stored start) e = absurd (unlike ListMalformed Taken tt e)
+    go (event.powered-on stored name start h n) e =
+        record { same = refl; before = before-started stored (nameOf name) start h }
+    go (event.malformed stored name start) e = absurd (unlike ListMalformed Taken tt e)
 
 pub gap-only-takes-away : GapOnlyTakesAway
-gap-only-takes-away d stored start taken es fs m =
-    let s = next d (PowerOn stored start) in
-    (two-runs m s s (started-related d stored start taken), after-markers s es, after-markers s fs)
+gap-only-takes-away d stored name start taken es fs m =
+    let s = next d (PowerOn stored name start) in
+    (two-runs m s s (started-related d stored name start taken), after-markers s es, after-markers s fs)

@@ -1,8 +1,7 @@
 -- An event on one link leaves the other links' keys and stages as they are, timers and answer 4 apart.
 -- Assumes nothing.
 use mathlib.Core.Bool.{false}
-use mathlib.Core.List.{List}
-use mathlib.Core.Path.{_≡_, refl, sym, ap, _∙_}
+use mathlib.Core.Path.{_≡_, refl, sym, _∙_}
 use Prim.Native.Nat.{ℕ, _<_}
 use lib.ListN.{replicate}
 use Rattle.laws.proofs.All.{all-get, all-replicate}
@@ -14,7 +13,6 @@ use Rattle.key_based.specs.declared.Decision.{Decision}
 use Rattle.key_based.specs.declared.Search.{Search}
 use Rattle.pairing.proofs.SessionSteps.{OnSessions, step-lawful}
 use Rattle.pairing.proofs.SessionSteps as session-answer
-use Rattle.pairing.specs.Pairing.{sessionStep}
 use Rattle.provider.proofs.Theorems.Refusals.{early-ways}
 use Rattle.provider.proofs.Theorems.Ways as event
 use Rattle.provider.proofs.Theorems.Ways.{way}
@@ -26,7 +24,6 @@ use Rattle.request_guard.specs.declared.Guard.{Guard}
 use Rattle.sessions.proofs.Laws.{expired-at, other-link}
 use Rattle.sessions.specs.Sessions.{linkCount, idle, absentSession, allIdle, sessionAt, withSession, atClock, expired}
 use Rattle.sessions.specs.declared.Session.{Session}
-use Rattle.sessions.specs.declared.Sessions.{Sessions}
 
 -- answer 4 leaves every link idle
 all-dropped : (l : ℕ) → l < linkCount → sessionAt allIdle l ≡ idle
@@ -56,20 +53,21 @@ module _ (d : Device) {l m : ℕ} (t : ℕ) (h : m ≡ l → ⊥) where
   decision-apart spent = stepped _
   decision-apart (taken p) = stepped _
 
-  -- answers 0 and 9 to 12
+  -- answers 0, 9 to 12 and 15
   late : {a : Answer} → OnSessions a → (s : Session) → atClock t s ≡ otherSession a t s
   late session-answer.taken s = refl
   late session-answer.link-idle s = refl
   late session-answer.wrong-stage s = refl
   late session-answer.capability-refused s = refl
   late session-answer.bad-block s = refl
+  late session-answer.name-refused s = refl
 
   on-link-apart : (e : LinkEvent)
       → sessionAt (onLink e (clockStep t d) m t .gives .next .sessions) l
       ≡ otherSession (onLink e (clockStep t d) m t .gives .reply .answer) t (sessionAt (d .sessions) l)
   on-link-apart LinkUp = stepped idle
   on-link-apart LinkDown = stepped idle
-  on-link-apart (KeyBasedWrite request element salt out) =
+  on-link-apart (KeyBasedWrite request element salt nonce out packet) =
       decision-apart (decided-way (contextOf (clockStep t d)) (sessionAt (clockStep t d .sessions) m) t element request)
   on-link-apart (OnSession e) =
       stepped _ ∙ late (step-lawful e t (sessionAt (clockStep t d .sessions) m) .answer) (sessionAt (d .sessions) l)

@@ -9,27 +9,26 @@ use lib.ListN.{length}
 use lib.Seq.{set-getD}
 use Rattle.laws.proofs.Choice.{true-is}
 use Rattle.laws.specs.Choice.{if_then_else_}
+use Rattle.additional_data.specs.Packet.{packetSized}
 use Rattle.basics.specs.Answers.{isTaken, isOneOf}
 use Rattle.basics.specs.declared.Answer.{Answer}
 use Rattle.basics.specs.declared.Answer.the-variants.{Taken, WrongLength, PasskeyTooLarge, OutputTooShort}
-use Rattle.key_based.proofs.Deciding.{Way, locked, unasked, no-fit, spent, taken, decided-way, output-kept}
+use Rattle.key_based.proofs.Deciding.{Way, locked, unasked, no-fit, spent, taken, decided-way, outputs-kept}
 use Rattle.key_based.specs.Decision.{triedKeys, decided}
 use Rattle.key_based.specs.Request.{sized}
 use Rattle.key_based.specs.declared.Decision.{Decision}
 use Rattle.key_based.specs.declared.Element.{Element}
 use Rattle.pairing.proofs.SessionSteps.{OnSessions, refusedSession, step-lawful, refusal-leaves}
 use Rattle.pairing.proofs.SessionSteps as session-answer
-use Rattle.pairing.specs.Pairing.{PairingEvent, PairingStarted, ConfirmationNeeded, PasskeyWrite, PairingEnded, AccountKeyWrite, sessionStep, storedIn}
+use Rattle.pairing.specs.Pairing.{PairingEvent, PairingStarted, ConfirmationNeeded, PasskeyWrite, PairingEnded, AccountKeyWrite, NameWrite, sessionStep}
 use Rattle.pairing.specs.declared.SessionOutcome.{SessionOutcome}
-use Rattle.pairing.specs.declared.Confirm.{Confirm}
 use Rattle.key_based.specs.Request.{noBond}
 use Rattle.provider.proofs.Theorems.Ways as event
 use Rattle.provider.proofs.Theorems.Ways.{way}
-use Rattle.provider.specs.Demands.Refusals.{changed, refusedNext, Refusals, triedOnLink, triedIn, toldTried, NumberTried, refusing, RefusalsHandOutOnlyTried}
-use Rattle.provider.specs.Rules.Device.{Effect, clockStep, withSessions, withKeys, withLink}
-use Rattle.provider.specs.Rules.Event.{LinkEvent, LinkUp, LinkDown, KeyBasedWrite, OnSession, Event, OnLink, lentOnLink, lent, early, contextOf, requested, applied, onLink, step}
+use Rattle.provider.specs.Demands.Refusals.{changed, refusedNext, Refusals, triedIn, toldTried, NumberTried, refusing, RefusalsHandOutOnlyTried}
+use Rattle.provider.specs.Rules.Device.{Effect, clockStep, withSessions, withLink}
+use Rattle.provider.specs.Rules.Event.{LinkEvent, LinkUp, LinkDown, KeyBasedWrite, OnSession, Event, OnLink, lent, early, contextOf, requested, applied, onLink}
 use Rattle.provider.specs.declared.Device.{Device}
-use Rattle.provider.specs.declared.Reply.{Reply}
 use Rattle.sessions.specs.Sessions.{absentSession, sessionAt}
 use Rattle.sessions.specs.declared.Session.{Session}
 
@@ -52,12 +51,15 @@ pub early-ways : (P : Answer → Type 0) → P Taken → P WrongLength → P Pas
     → (e : LinkEvent) → P (early e)
 early-ways P p q r s LinkUp = p
 early-ways P p q r s LinkDown = p
-early-ways P p q r s (KeyBasedWrite request element salt out) = go (sized request) (ltb (length out) 16)
+early-ways P p q r s (KeyBasedWrite request element salt nonce out packet) =
+    go (sized request) (ltb (length packet) 80) (ltb (length out) 16)
   where
-    go : (x y : Bool) → P (if not x then WrongLength else if y then OutputTooShort else Taken)
-    go false y = q
-    go true true = s
-    go true false = p
+    go : (x y z : Bool) → P (if not x then WrongLength else if y then OutputTooShort else if z then OutputTooShort else
+        Taken)
+    go false y z = q
+    go true true z = s
+    go true false true = s
+    go true false false = p
 early-ways P p q r s (OnSession (PairingStarted capability)) = p
 early-ways P p q r s (OnSession (ConfirmationNeeded passkey)) = go (ltb 999999 passkey)
   where
@@ -71,6 +73,11 @@ early-ways P p q r s (OnSession (PasskeyWrite block salt out)) = go (ltb (length
     go false = p
 early-ways P p q r s (OnSession (PairingEnded success)) = p
 early-ways P p q r s (OnSession (AccountKeyWrite block)) = p
+early-ways P p q r s (OnSession (NameWrite packet)) = go (packetSized packet)
+  where
+    go : (b : Bool) → P (if not b then WrongLength else Taken)
+    go true = p
+    go false = q
 
 -- an early refusal changes nothing, and tells no number of keys
 record Nothing (d : Device) (l t : ℕ) (a : Answer) : Type 0 where
@@ -87,7 +94,7 @@ early-nothing d l t =
 
 -- ---- answers 5 to 8
 
-module _ (d : Device) (l t : ℕ) (request : List ℕ) (element : Element) (salt out : List ℕ) where
+module _ (d : Device) (l t : ℕ) (request : List ℕ) (element : Element) where
   -- a decision's outcome
   record Decides (r : Decision) : Type 0 where
     next : isTaken (r .answer) ≡ false → requested (clockStep t d) l r .next ≡ changed (r .answer) d l t
@@ -109,10 +116,10 @@ module _ (d : Device) (l t : ℕ) (request : List ℕ) (element : Element) (salt
     tried = refl;
   }
 
--- ---- answers 9 to 12
+-- ---- answers 9 to 12 and 15
 
 module _ (d : Device) (l t : ℕ) where
-  -- 9 leaves the link as it was, and 10, 11 and 12 drop its K
+  -- 9 and 15 leave the link as it was, and 10, 11 and 12 drop its K
   session-changed : {a : Answer} → OnSessions a → isTaken a ≡ false
       → withLink (clockStep t d) l (refusedSession a (sessionAt (clockStep t d .sessions) l)) ≡ changed a d l t
   session-changed session-answer.taken h = absurd (true-is (sym h))
@@ -120,6 +127,7 @@ module _ (d : Device) (l t : ℕ) where
   session-changed session-answer.wrong-stage h = refl
   session-changed session-answer.capability-refused h = refl
   session-changed session-answer.bad-block h = refl
+  session-changed session-answer.name-refused h = same-link (clockStep t d) l
 
   module _ (e : PairingEvent) where
     session-next : isTaken (sessionStep e t (sessionAt (clockStep t d .sessions) l) .answer) ≡ false
@@ -127,8 +135,7 @@ module _ (d : Device) (l t : ℕ) where
         ≡ changed (sessionStep e t (sessionAt (clockStep t d .sessions) l) .answer) d l t
     session-next h =
         let p = step-lawful e t (sessionAt (clockStep t d .sessions) l) in
-        ap (λ (a : SessionOutcome). withLink (withKeys (clockStep t d) (storedIn a (clockStep t d .keys))) l
-        (a .session)) (p .refusal h)
+        ap (λ (a : SessionOutcome). applied (clockStep t d) l a .next) (p .refusal h)
         ∙ session-changed (p .answer) h
 
     session-reply : isTaken (sessionStep e t (sessionAt (clockStep t d .sessions) l) .answer) ≡ false
@@ -141,6 +148,7 @@ module _ (d : Device) (l t : ℕ) where
           tried = 0;
           bond = noBond;
           confirm = p .refusal h i .confirm;
+          packet = 0;
         }
 
 -- no key tried is told as 0, whatever the answer
@@ -153,12 +161,14 @@ none-tried false = refl
 told-on-link : (d : Device) (l t : ℕ) (e : LinkEvent) → Tells d (OnLink l t e) (onLink e (clockStep t d) l t)
 told-on-link d l t LinkUp = record { refusal = λ h. absurd (true-is (sym h)); tried = refl }
 told-on-link d l t LinkDown = record { refusal = λ h. absurd (true-is (sym h)); tried = refl }
-told-on-link d l t (KeyBasedWrite request element salt out) =
+told-on-link d l t (KeyBasedWrite request element salt nonce out packet) =
     let c = contextOf (clockStep t d) in
     let s = sessionAt (clockStep t d .sessions) l in
-    let p = decides d l t request element salt out (decided-way c s t element request) in
+    let r = decided c s t element request in
+    let way = decided-way c s t element request in
+    let p = decides d l t request element way in
     record {
-      refusal = λ h. (sym (output-kept c salt out (decided c s t element request) h), p .next h, p .reply h);
+      refusal = λ h. (outputs-kept c salt nonce out packet way h, p .next h, p .reply h);
       tried = p .tried;
     }
 told-on-link d l t (OnSession e) = record {
@@ -172,8 +182,8 @@ told-on-link d l t (OnSession e) = record {
 
 told : (d : Device) {e : Event} {x : Effect} → event.Way d e x → Tells d e x
 told d event.marker = record { refusal = λ h. absurd (true-is (sym h)); tried = refl }
-told d (event.powered-on stored start h) = record { refusal = λ h. absurd (true-is (sym h)); tried = refl }
-told d (event.malformed stored start) = record { refusal = λ h. (refl, refl, refl); tried = refl }
+told d (event.powered-on stored name start h n) = record { refusal = λ h. absurd (true-is (sym h)); tried = refl }
+told d (event.malformed stored name start) = record { refusal = λ h. (refl, refl, refl); tried = refl }
 told d (event.device-late t e) = record { refusal = λ h. (refl, refl, refl); tried = refl }
 told d (event.device-changed t e) = record { refusal = λ h. absurd (true-is (sym h)); tried = refl }
 told d (event.unknown-link l t e) = record { refusal = λ h. (refl, refl, refl); tried = refl }

@@ -9,9 +9,12 @@ use Rattle.laws.proofs.All.{all-set, all-replicate}
 use Rattle.laws.specs.Lists.{All}
 use Rattle.account_keys.specs.Keys.{owned, kept}
 use Rattle.account_keys.specs.declared.AccountKeys.{AccountKeys}
+use Rattle.names.proofs.ValidNames.{no-name-valid}
+use Rattle.names.specs.Name as names
+use Rattle.names.specs.declared.Name.{Name}
 use Rattle.provider.specs.Rules.Control.{started, off}
 use Rattle.provider.specs.Demands.Validity.{Valid}
-use Rattle.provider.specs.Rules.Device.{withSessions, dropAt, withLink, withKeys, withGuard, withBeacon, dropAll, clockStep}
+use Rattle.provider.specs.Rules.Device.{withSessions, dropAt, withLink, withKeys, withGuard, withBeacon, withName, dropAll, clockStep}
 use Rattle.provider.specs.declared.Beacon.{Beacon}
 use Rattle.provider.specs.declared.Device.{Device}
 use Rattle.provider.specs.declared.Start.{Start}
@@ -41,17 +44,25 @@ no-keys-valid = kept-valid [] (omega arith) tt refl
 
 module _ {d : Device} (v : Valid d) where
   pub keys-valid : (ks : AccountKeys) → keys.Valid ks → Valid (withKeys d ks)
-  keys-valid ks p = record { keys = p; links = v .links; sessions = v .sessions; guard = v .guard }
+  keys-valid ks p =
+      record { keys = p; links = v .links; sessions = v .sessions; guard = v .guard; name = v .name }
 
   pub guard-valid : (g : Guard) → guard.Valid g → Valid (withGuard d g)
-  guard-valid g p = record { keys = v .keys; links = v .links; sessions = v .sessions; guard = p }
+  guard-valid g p =
+      record { keys = v .keys; links = v .links; sessions = v .sessions; guard = p; name = v .name }
 
   pub beacon-valid : (b : Beacon) → Valid (withBeacon d b)
-  beacon-valid b = record { keys = v .keys; links = v .links; sessions = v .sessions; guard = v .guard }
+  beacon-valid b =
+      record { keys = v .keys; links = v .links; sessions = v .sessions; guard = v .guard; name = v .name }
+
+  pub name-valid : (n : Name) → names.Valid n → Valid (withName d n)
+  name-valid n p =
+      record { keys = v .keys; links = v .links; sessions = v .sessions; guard = v .guard; name = p }
 
   pub sessions-valid : (ss : Sessions) → length (ss .links) ≡ linkCount → All Canonical (ss .links) → Valid
       (withSessions d ss)
-  sessions-valid ss n p = record { keys = v .keys; links = n; sessions = p; guard = v .guard }
+  sessions-valid ss n p =
+      record { keys = v .keys; links = n; sessions = p; guard = v .guard; name = v .name }
 
   pub link-valid : (l : ℕ) (s : Session) → Canonical s → Valid (withLink d l s)
   link-valid l s p =
@@ -70,12 +81,19 @@ module _ {d : Device} (v : Valid d) where
       ∙ v .links in
       let held : All Canonical (expired t (d .sessions) .links) = expired-all t
       (d .sessions) Canonical idle-holds-nothing (v .sessions) in
-      record { keys = v .keys; links = links; sessions = held; guard = clock-valid (d .guard) (v .guard) t }
+      record {
+        keys = v .keys;
+        links = links;
+        sessions = held;
+        guard = clock-valid (d .guard) (v .guard) t;
+        name = v .name;
+      }
 
--- power-on with a valid list
-pub started-valid : (ks : AccountKeys) (s : Start) → keys.Valid ks → Valid (started ks s)
-started-valid ks s p = record { keys = p; links = refl; sessions = all-idle; guard = fresh-valid }
+-- power-on with a valid list and a valid name
+pub started-valid : (ks : AccountKeys) (n : Name) (s : Start) → keys.Valid ks → names.Valid n → Valid (started ks n s)
+started-valid ks n s p q = record { keys = p; links = refl; sessions = all-idle; guard = fresh-valid; name = q }
 
 -- the value before any device
 pub off-valid : Valid off
-off-valid = record { keys = no-keys-valid; links = refl; sessions = all-idle; guard = fresh-valid }
+off-valid =
+    record { keys = no-keys-valid; links = refl; sessions = all-idle; guard = fresh-valid; name = no-name-valid }

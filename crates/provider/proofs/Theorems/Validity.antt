@@ -1,10 +1,9 @@
 -- Power-on and every event leave a valid device, and its stored list reads back.
 -- Assumes nothing.
 use mathlib.Core.Bool.{Bool, true, false}
-use mathlib.Core.Path.{_≡_, refl, sym}
+use mathlib.Core.Path.{_≡_, refl}
 use Prim.Native.Nat.{ℕ, _<_}
 use Rattle.laws.proofs.All.{all-get}
-use Rattle.laws.proofs.Choice.{true-is}
 use Rattle.laws.specs.Choice.{if_then_else_}
 use Rattle.account_keys.proofs.ReadBack.{reads-back, reads-valid}
 use Rattle.account_keys.proofs.Storing.{stores-valid}
@@ -19,19 +18,22 @@ use Rattle.key_based.specs.Decision.{asked}
 use Rattle.key_based.specs.declared.Decision.{Decision}
 use Rattle.key_based.specs.declared.Search.{Search}
 use Rattle.pairing.proofs.SessionSteps.{Lawful, Storable, in-a-stage, step-lawful}
-use Rattle.pairing.specs.Pairing.{sessionStep, storedIn}
+use Rattle.names.proofs.ValidNames.{nameOf-valid, no-name-valid}
+use Rattle.names.specs.Name as names
+use Rattle.names.specs.Name.{nameOf}
+use Rattle.names.specs.declared.Name.{Name}
+use Rattle.pairing.specs.Pairing.{storedIn, renamedIn}
 use Rattle.pairing.specs.declared.SessionOutcome.{SessionOutcome}
-use Rattle.provider.proofs.Theorems.ValidParts.{idle-holds-nothing, no-keys-valid, keys-valid, guard-valid, beacon-valid, link-valid, dropAt-valid, dropAll-valid, clockStep-valid, started-valid}
+use Rattle.provider.proofs.Theorems.ValidParts.{no-keys-valid, keys-valid, guard-valid, beacon-valid, name-valid, link-valid, dropAt-valid, dropAll-valid, clockStep-valid, started-valid}
 use Rattle.provider.proofs.Theorems.Ways as event
 use Rattle.provider.proofs.Theorems.Ways.{way}
 use Rattle.provider.specs.Demands.Validity.{Valid, StaysValid, StartsValid, StoredListReadsBack}
-use Rattle.provider.specs.Rules.Device.{Effect, clockStep, withKeys}
+use Rattle.provider.specs.Rules.Device.{Effect}
 use Rattle.provider.specs.Rules.Event.{DeviceEvent, PairingMode, AddressRotated, FactoryReset, LinkEvent, LinkUp, LinkDown, KeyBasedWrite, OnSession, Event, PowerOn, contextOf, requested, applied, onDevice, onLink}
 use Rattle.provider.specs.declared.Device.{Device}
 use Rattle.request_guard.proofs.Laws.{fresh-valid, accepted-valid, failed-valid}
 use Rattle.request_guard.specs.Guard.{fresh}
 use Rattle.sessions.specs.Sessions.{Canonical, linkCount, absentSession, sessionAt}
-use Rattle.sessions.specs.declared.Session.{Session}
 
 -- ---- events on a link
 
@@ -42,6 +44,15 @@ stored-valid a ks v p = go (a .stores) refl
   where
     go : (b : Bool) → a .stores ≡ b → keys.Valid (if b then kept (stored (held ks) (a .key)) else ks)
     go true e = stores-valid ks (a .key) v (p e .0) (p e .1)
+    go false e = v
+
+-- and a name that may be taken
+renamed-valid : (a : SessionOutcome) (n : Name) → names.Valid n → (a .renames ≡ true → names.Valid (a .name))
+    → names.Valid (renamedIn a n)
+renamed-valid a n v p = go (a .renames) refl
+  where
+    go : (b : Bool) → a .renames ≡ b → names.Valid (if b then a .name else n)
+    go true e = p e
     go false e = v
 
 module _ {d : Device} (v : Valid d) (l : ℕ) (k : l < linkCount) where
@@ -60,13 +71,13 @@ module _ {d : Device} (v : Valid d) (l : ℕ) (k : l < linkCount) where
 
   applied-valid : {a : SessionOutcome} → Lawful (sessionAt (d .sessions) l) a → Valid (applied d l a .next)
   applied-valid {a} p =
-      link-valid (keys-valid v _ (stored-valid a (d .keys) (v .keys) (p .storable))) l (a .session)
-      (p .session session-canonical)
+      link-valid (name-valid (keys-valid v _ (stored-valid a (d .keys) (v .keys) (p .storable))) _
+      (renamed-valid a (d .name) (v .name) (p .name))) l (a .session) (p .session session-canonical)
 
   on-link-valid : (e : LinkEvent) (t : ℕ) → Valid (onLink e d l t .gives .next)
   on-link-valid LinkUp t = dropAt-valid v l
   on-link-valid LinkDown t = dropAt-valid v l
-  on-link-valid (KeyBasedWrite request element salt out) t =
+  on-link-valid (KeyBasedWrite request element salt nonce out packet) t =
       decision-valid (decided-way (contextOf d) (sessionAt (d .sessions) l) t element request)
   on-link-valid (OnSession e) t = applied-valid (step-lawful e t (sessionAt (d .sessions) l))
 
@@ -75,12 +86,14 @@ module _ {d : Device} (v : Valid d) (l : ℕ) (k : l < linkCount) where
 device-valid : (e : DeviceEvent) {d : Device} → Valid d → Valid (onDevice e d)
 device-valid (PairingMode on) v = beacon-valid v _
 device-valid (AddressRotated ble salt) v = beacon-valid v _
-device-valid FactoryReset v = keys-valid (guard-valid (dropAll-valid v) fresh fresh-valid) _ no-keys-valid
+device-valid FactoryReset v =
+    name-valid (keys-valid (guard-valid (dropAll-valid v) fresh fresh-valid) _ no-keys-valid) _ no-name-valid
 
 leaves-valid : {d : Device} {e : Event} {x : Effect} → event.Way d e x → Valid d → Valid (x .gives .next)
 leaves-valid event.marker v = dropAll-valid v
-leaves-valid (event.powered-on stored start h) v = started-valid (reading stored .keys) start (reads-valid stored h)
-leaves-valid (event.malformed stored start) v = v
+leaves-valid (event.powered-on stored name start h n) v =
+    started-valid (reading stored .keys) (nameOf name) start (reads-valid stored h) (nameOf-valid name n)
+leaves-valid (event.malformed stored name start) v = v
 leaves-valid (event.device-late t e) v = dropAll-valid v
 leaves-valid (event.device-changed t e) v = device-valid e (clockStep-valid v t)
 leaves-valid (event.unknown-link l t e) v = v
@@ -92,11 +105,12 @@ pub stays-valid : StaysValid
 stays-valid d e v = leaves-valid (way d e) v
 
 pub starts-valid : StartsValid
-starts-valid d stored start = go (way d (PowerOn stored start))
+starts-valid d stored name start = go (way d (PowerOn stored name start))
   where
-    go : {x : Effect} → event.Way d (PowerOn stored start) x → x .gives .reply .answer ≡ Taken → Valid (x .gives .next)
-    go (event.powered-on stored start h) e = started-valid (reading stored .keys) start (reads-valid stored h)
-    go (event.malformed stored start) e = absurd (unlike ListMalformed Taken tt e)
+    go : {x : Effect} → event.Way d (PowerOn stored name start) x → x .gives .reply .answer ≡ Taken → Valid (x .gives .next)
+    go (event.powered-on stored name start h n) e =
+        started-valid (reading stored .keys) (nameOf name) start (reads-valid stored h) (nameOf-valid name n)
+    go (event.malformed stored name start) e = absurd (unlike ListMalformed Taken tt e)
 
 pub stored-list-reads-back : StoredListReadsBack
 stored-list-reads-back d v = reads-back (d .keys) (v .keys)

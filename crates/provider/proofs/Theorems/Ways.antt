@@ -13,6 +13,7 @@ use Rattle.account_keys.specs.declared.ListForm.{ListForm}
 use Rattle.account_keys.specs.declared.ListForm.the-variants.{WellFormed, Malformed}
 use Rattle.basics.specs.Answers.{isTaken}
 use Rattle.basics.specs.declared.Answer.the-variants.{UnknownLink, ClockWentBack, ListMalformed}
+use Rattle.names.specs.Name.{isName, nameOf}
 use Rattle.provider.specs.Rules.Control.{started, byForm, powerOn}
 use Rattle.provider.specs.Rules.Device.{Effect, answers, takes, dropAll, clockStep, inTime, onKnownLink}
 use Rattle.provider.specs.Rules.Event.{DeviceEvent, LinkEvent, Event, Overflow, PowerOn, OnDevice, OnLink, lentOnLink, early, onDevice, onLink, step}
@@ -22,9 +23,9 @@ use Rattle.sessions.specs.Sessions.{linkCount}
 
 pub data Way (d : Device) : Event → Effect → Type 0 where
   marker : Way d Overflow (takes (dropAll d))
-  powered-on : (stored : List ℕ) (start : Start) → reading stored .form ≡ WellFormed
-      → Way d (PowerOn stored start) (takes (started (reading stored .keys) start))
-  malformed : (stored : List ℕ) (start : Start) → Way d (PowerOn stored start) (answers d ListMalformed [])
+  powered-on : (stored name : List ℕ) (start : Start) → reading stored .form ≡ WellFormed → isName name ≡ true
+      → Way d (PowerOn stored name start) (takes (started (reading stored .keys) (nameOf name) start))
+  malformed : (stored name : List ℕ) (start : Start) → Way d (PowerOn stored name start) (answers d ListMalformed [])
   device-late : (t : ℕ) (e : DeviceEvent) → Way d (OnDevice t e) (answers (dropAll d) ClockWentBack [])
   device-changed : (t : ℕ) (e : DeviceEvent) → Way d (OnDevice t e) (takes (onDevice e (clockStep t d)))
   unknown-link : (l t : ℕ) (e : LinkEvent) → Way d (OnLink l t e) (answers d UnknownLink (lentOnLink e))
@@ -37,12 +38,15 @@ pub data Way (d : Device) : Event → Effect → Type 0 where
 pub way : (d : Device) (e : Event) → Way d e (step d e)
 unfolding powerOn inTime onKnownLink
 way d Overflow = marker
-way d (PowerOn stored start) = go (reading stored .form) refl
+way d (PowerOn stored name start) = go (reading stored .form) (isName name) refl refl
   where
-    go : (f : ListForm) → reading stored .form ≡ f
-        → Way d (PowerOn stored start) (byForm f (takes (started (reading stored .keys) start)) (answers d ListMalformed []))
-    go WellFormed e = powered-on stored start e
-    go Malformed e = malformed stored start
+    go : (f : ListForm) (b : Bool) → reading stored .form ≡ f → isName name ≡ b
+        → Way d (PowerOn stored name start)
+        (byForm f (if b then takes (started (reading stored .keys) (nameOf name) start) else answers d ListMalformed [])
+        (answers d ListMalformed []))
+    go WellFormed true e h = powered-on stored name start e h
+    go WellFormed false e h = malformed stored name start
+    go Malformed b e h = malformed stored name start
 way d (OnDevice t e) = go (ltb t (d .clock .0))
   where
     go : (b : Bool) → Way d (OnDevice t e)

@@ -11,9 +11,11 @@ use Rattle.account_keys.specs.StoredList.{reading}
 use Rattle.account_keys.specs.declared.ListForm.{ListForm}
 use Rattle.account_keys.specs.declared.ListForm.the-variants.{WellFormed, Malformed}
 use Rattle.basics.specs.Answers.{answerNumber}
+use Rattle.additional_data.specs.Packet.{opened, packetSized}
 use Rattle.key_based.specs.Decision.{saltKnown, triedKeys, unwanted}
 use Rattle.key_based.specs.Request.{sized}
-use Rattle.pairing.specs.Pairing.{PairingEvent, PairingStarted, ConfirmationNeeded, PasskeyWrite, PairingEnded, AccountKeyWrite, refusedCapability, badBlock}
+use Rattle.names.specs.Name.{isName}
+use Rattle.pairing.specs.Pairing.{PairingEvent, PairingStarted, ConfirmationNeeded, PasskeyWrite, PairingEnded, AccountKeyWrite, NameWrite, refusedCapability, badBlock}
 use Rattle.provider.specs.Rules.Device.{clockStep}
 use Rattle.provider.specs.Rules.Event.{Event, LinkEvent, LinkUp, LinkDown, KeyBasedWrite, OnSession, Overflow, PowerOn, OnDevice, OnLink, contextOf, answerOf}
 use Rattle.provider.specs.declared.Device.{Device}
@@ -35,20 +37,23 @@ unfoldable pub firstGiven : List Row → ℕ
 firstGiven [] = 0
 firstGiven (r ∷ rs) = if r .given then r .number else firstGiven rs
 
--- 2: "key-based write not 16 or 80 bytes"; 3: "our passkey above 999,999"; 13: "lent output too short"
+-- 2: "key-based write not 16 or 80 bytes"; 3: "our passkey above 999,999"; 13: "lent output too short". Document 02 (i), 13: the
+-- second output "needs 80 bytes in every key-based write"; 2 in a name write: "Any size but 16 to 80"
 abbrev pub rowsBeforeClock : LinkEvent → List Row
 rowsBeforeClock LinkUp = []
 rowsBeforeClock LinkDown = []
-rowsBeforeClock (KeyBasedWrite request element salt out) =
-    row 2 (not (sized request)) ∷ row 13 (ltb (length out) 16) ∷ []
+rowsBeforeClock (KeyBasedWrite request element salt nonce out packet) =
+    row 2 (not (sized request)) ∷ row 13 (ltb (length out) 16) ∷ row 13 (ltb (length packet) 80) ∷ []
 rowsBeforeClock (OnSession (PairingStarted capability)) = []
 rowsBeforeClock (OnSession (ConfirmationNeeded passkey)) = row 3 (ltb 999999 passkey) ∷ []
 rowsBeforeClock (OnSession (PasskeyWrite block salt out)) = row 13 (ltb (length out) 16) ∷ []
 rowsBeforeClock (OnSession (PairingEnded success)) = []
 rowsBeforeClock (OnSession (AccountKeyWrite block)) = []
+rowsBeforeClock (OnSession (NameWrite packet)) = row 2 (not (packetSized packet)) ∷ []
 
 -- 9: "on an idle link"; 10: "link's stage is not the one this event needs"; 11: "capability refused"; 12: "passkey or account
--- block not 16 bytes, or wrong first byte"
+-- block not 16 bytes, or wrong first byte". Document 02 (i), name write: "9 (idle) or 10 (paired)"; 15, "after 10, a wrong tag or
+-- bad UTF-8"
 unfoldable pub rowsOnSession : PairingEvent → Session → List Row
 rowsOnSession (PairingStarted capability) s =
     row 9 (isStage (s .stage) Idle)
@@ -70,12 +75,17 @@ rowsOnSession (AccountKeyWrite block) s =
     ∷ row 10 (not (isStage (s .stage) Paired))
     ∷ row 12 (badBlock 0x04 (s .key) block)
     ∷ []
+rowsOnSession (NameWrite packet) s =
+    row 9 (isStage (s .stage) Idle)
+    ∷ row 10 (isStage (s .stage) Paired)
+    ∷ row 15 (not (opened (s .key) packet .good))
+    ∷ []
 
 -- 5: "count is 10"; 6: "80 bytes, pairing mode off"; 7: "no candidate fits"; 8: "fits, salt remembered"
 unfoldable pub rowsAfterClock : LinkEvent → Device → ℕ → List Row
 rowsAfterClock LinkUp d l = []
 rowsAfterClock LinkDown d l = []
-rowsAfterClock (KeyBasedWrite request element salt out) d l =
+rowsAfterClock (KeyBasedWrite request element salt nonce out packet) d l =
     row 5 (locked (d .guard))
     ∷ row 6 (unwanted (contextOf d) request)
     ∷ row 7 (not (triedKeys (contextOf d) element request .found))
@@ -83,16 +93,17 @@ rowsAfterClock (KeyBasedWrite request element salt out) d l =
     ∷ []
 rowsAfterClock (OnSession e) d l = rowsOnSession e (sessionAt (d .sessions) l)
 
--- 14: "stored list malformed"
+-- 14: "stored list malformed"; document 02 (i): "a bad one gets 14"
 abbrev pub malformed : ListForm → Bool
 malformed WellFormed = false
 malformed Malformed = true
 
 -- 1: "link above 7"; 4: "clock below the stored clock". "Checked in this order: 1, 2, 3, 13, 4, then 5, 6, 7, 8 for key-based
--- writes, or 9, 10, 11, 12 for pairing, passkey and account key events. Power-on knows only 0 and 14."
+-- writes, or 9, 10, 11, 12 for pairing, passkey and account key events. Power-on knows only 0 and 14."; 9, 10, 15 for name writes
 unfoldable pub rows : Device → Event → List Row
 rows d Overflow = []
-rows d (PowerOn stored start) = row 14 (malformed (reading stored .form)) ∷ []
+rows d (PowerOn stored name start) =
+    row 14 (malformed (reading stored .form)) ∷ row 14 (not (isName name)) ∷ []
 rows d (OnDevice t e) = row 4 (ltb t (d .clock .0)) ∷ []
 rows d (OnLink l t e) =
     row 1 (ltb 7 l) ∷ rowsBeforeClock e ++ (row 4 (ltb t (d .clock .0)) ∷ rowsAfterClock e (clockStep t d) l)

@@ -12,7 +12,8 @@ use Rattle.account_keys.specs.StoredList.{reading}
 use Rattle.account_keys.specs.declared.AccountKey.{AccountKey}
 use Rattle.basics.specs.Answers.{answerNumber}
 use Rattle.basics.specs.declared.Answer.the-variants.{Taken}
-use Rattle.pairing.specs.Pairing.{PairingEvent, PairingStarted, ConfirmationNeeded, PasskeyWrite, PairingEnded, AccountKeyWrite}
+use Rattle.names.specs.Name.{textOf}
+use Rattle.pairing.specs.Pairing.{PairingStarted, ConfirmationNeeded, PasskeyWrite, PairingEnded, AccountKeyWrite, NameWrite, isNameWrite}
 use Rattle.provider.specs.Demands.Validity.{written}
 use Rattle.provider.specs.Rules.Event.{Event, LinkEvent, LinkUp, LinkDown, KeyBasedWrite, OnSession, Overflow, PowerOn, OnDevice, OnLink, lent, step, next, answerOf}
 use Rattle.provider.specs.declared.Device.{Device}
@@ -30,7 +31,7 @@ pub data Marked : List Event → List Event → Type 0 where
 -- an event on link l of a kind
 abbrev pub isOf : (LinkEvent → Bool) → ℕ → Event → Bool
 isOf kind l Overflow = false
-isOf kind l (PowerOn stored start) = false
+isOf kind l (PowerOn stored name start) = false
 isOf kind l (OnDevice t e) = false
 isOf kind l (OnLink m t e) = eqb m l and kind e
 
@@ -40,27 +41,39 @@ anyKind e = true
 abbrev pub isRequest : LinkEvent → Bool
 isRequest LinkUp = false
 isRequest LinkDown = false
-isRequest (KeyBasedWrite request element salt out) = true
+isRequest (KeyBasedWrite request element salt nonce out packet) = true
 isRequest (OnSession e) = false
 
--- a passkey write or account key write
+-- a passkey write, account key write or name write
 abbrev pub needsKey : LinkEvent → Bool
 needsKey LinkUp = false
 needsKey LinkDown = false
-needsKey (KeyBasedWrite request element salt out) = false
+needsKey (KeyBasedWrite request element salt nonce out packet) = false
 needsKey (OnSession (PairingStarted capability)) = false
 needsKey (OnSession (ConfirmationNeeded passkey)) = false
 needsKey (OnSession (PasskeyWrite block salt out)) = true
 needsKey (OnSession (PairingEnded success)) = false
 needsKey (OnSession (AccountKeyWrite block)) = true
+needsKey (OnSession (NameWrite packet)) = true
+
+-- a name write, on any link
+abbrev pub writesName : Event → Bool
+writesName Overflow = false
+writesName (PowerOn stored name start) = false
+writesName (OnDevice t e) = false
+writesName (OnLink l t LinkUp) = false
+writesName (OnLink l t LinkDown) = false
+writesName (OnLink l t (KeyBasedWrite request element salt nonce out packet)) = false
+writesName (OnLink l t (OnSession e)) = isNameWrite e
 
 -- ---- what is seen of a run: `S` is a state and `R` all that an answer hands out
 pub record Observed (S R : Type 0) : Type 0 where
   pub next : S → Event → S
   pub number : S → Event → ℕ
   pub reply : S → Event → R
-  pub leaves : S → Event → List ℕ
+  pub leaves : S → Event → List (List ℕ)
   pub written : S → List ℕ
+  pub named : S → List ℕ
 
 -- the rules, so seen
 abbrev pub rules : Observed Device Reply
@@ -71,6 +84,7 @@ rules =
       reply = λ d e. step d e .gives .reply;
       leaves = λ d e. step d e .leaves;
       written = written;
+      named = λ d. textOf (d .name);
     }
 
 -- a key that a written list holds
@@ -94,24 +108,28 @@ module _ {S R : Type 0} (o : Observed S R) where
   abbrev pub Compared : S → S → Event → Type 0
   Compared d c e = (Alike d c e ⊎ Lost d c e) × ((k : AccountKey) → Stores c e k → Stores d e k)
 
-  -- the parting: the first run stores a key and the second does not
+  -- the parting: the first run stores a key and the second does not, or the first takes a name and the second gets 9
   abbrev pub Parting : S → S → Event → Type 0
-  Parting d c e = (k : AccountKey) × Stores d e k × (Stores c e k → ⊥)
+  Parting d c e =
+      ((k : AccountKey) × Stores d e k × (Stores c e k → ⊥))
+      ⊎ ((writesName e ≡ true) × (o .number d e ≡ 0) × (o .number c e ≡ 9))
 
-  -- up to and including the parting every event compares, and after each event but the parting the written lists are equal
+  -- up to and including the parting every event compares, and after each event but the parting the written lists and the names
+  -- are equal
   abbrev pub TwoRuns : (d c : S) {es fs : List Event} → Marked es fs → Type 0
   TwoRuns d c done = Unit
   TwoRuns d c (added m) = TwoRuns d (o .next c Overflow) m
   TwoRuns d c (same e m) =
       Compared d c e
       × (Parting d c e ⊎
-      ((o .written (o .next d e) ≡ o .written (o .next c e)) × TwoRuns (o .next d e) (o .next c e) m))
+      ((o .written (o .next d e) ≡ o .written (o .next c e)) × (o .named (o .next d e) ≡ o .named (o .next c e))
+      × TwoRuns (o .next d e) (o .next c e) m))
 
   -- "A request is accepted .. exactly when its write gets 0"
   abbrev pub Accepts : ℕ → S → Event → Type 0
   Accepts l d e = (isOf isRequest l e ≡ true) × (o .number d e ≡ 0)
 
-  -- no passkey write and no account key write on link l gets 0, and no event on l stores a key
+  -- no passkey write, account key write or name write on link l gets 0, and no event on l stores a key
   abbrev pub Quiet : ℕ → S → Event → Type 0
   Quiet l d e =
       (isOf needsKey l e ≡ true → o .number d e ≡ 0 → ⊥)
@@ -135,5 +153,5 @@ module _ {S R : Type 0} (o : Observed S R) where
 -- "Both runs start from the state that the same taken power-on gave."
 abbrev pub GapOnlyTakesAway : Type 0
 GapOnlyTakesAway =
-    (d : Device) (stored : List ℕ) (start : Start) → answerOf d (PowerOn stored start) ≡ Taken
-    → OnlyTakesAway rules (next d (PowerOn stored start))
+    (d : Device) (stored name : List ℕ) (start : Start) → answerOf d (PowerOn stored name start) ≡ Taken
+    → OnlyTakesAway rules (next d (PowerOn stored name start))

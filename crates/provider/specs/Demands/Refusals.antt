@@ -27,13 +27,13 @@ changed a d l t =
     if isOneOf (7 ∷ []) a then withGuard (clockStep t d) (failedAt t (clockStep t d .guard)) else
     -- "its K dropped"
     if isOneOf (10 ∷ 11 ∷ 12 ∷ []) a then dropAt (clockStep t d) l else
-    -- 5, 6, 8 and 9: "clock step only"
+    -- 5, 6, 8 and 9: "clock step only"; 15: "old name kept", and it keeps "K, stage and timer"
     clockStep t d
 
 -- a marker is never refused, 14 changes nothing, and an event of the whole device is refused by 4 alone
 abbrev pub refusedNext : Answer → Device → Event → Device
 refusedNext a d Overflow = d
-refusedNext a d (PowerOn stored start) = d
+refusedNext a d (PowerOn stored name start) = d
 refusedNext a d (OnDevice t e) = dropAll d
 refusedNext a d (OnLink l t e) = changed a d l t
 
@@ -47,12 +47,12 @@ Refusals =
 abbrev pub triedOnLink : LinkEvent → Device → ℕ
 triedOnLink LinkUp d = 0
 triedOnLink LinkDown d = 0
-triedOnLink (KeyBasedWrite request element salt out) d = triedKeys (contextOf d) element request .tried
+triedOnLink (KeyBasedWrite request element salt nonce out packet) d = triedKeys (contextOf d) element request .tried
 triedOnLink (OnSession e) d = 0
 
 abbrev pub triedIn : Device → Event → ℕ
 triedIn d Overflow = 0
-triedIn d (PowerOn stored start) = 0
+triedIn d (PowerOn stored name start) = 0
 triedIn d (OnDevice t e) = 0
 triedIn d (OnLink l t e) = triedOnLink e (clockStep t d)
 
@@ -63,9 +63,9 @@ toldTried a n = if isOneOf (0 ∷ 7 ∷ 8 ∷ []) a then n else 0
 abbrev pub NumberTried : Type 0
 NumberTried = (d : Device) (e : Event) → step d e .gives .reply .tried ≡ toldTried (answerOf d e) (triedIn d e)
 
--- a refusal hands out no address for bonding and no word on a passkey
+-- a refusal hands out no address for bonding, no word on a passkey and no packet
 abbrev pub refusing : Reply → Reply
-refusing r = record { answer = r .answer; tried = r .tried; bond = noBond; confirm = Unasked }
+refusing r = record { answer = r .answer; tried = r .tried; bond = noBond; confirm = Unasked; packet = 0 }
 
 abbrev pub RefusalsHandOutOnlyTried : Type 0
 RefusalsHandOutOnlyTried =

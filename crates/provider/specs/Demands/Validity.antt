@@ -9,6 +9,7 @@ use Rattle.account_keys.specs.Keys as keys
 use Rattle.account_keys.specs.StoredList.{reading, writing}
 use Rattle.account_keys.specs.declared.ListForm.the-variants.{WellFormed}
 use Rattle.basics.specs.declared.Answer.the-variants.{Taken}
+use Rattle.names.specs.Name as names
 use Rattle.provider.specs.Rules.Event.{Event, PowerOn, next, answerOf}
 use Rattle.provider.specs.declared.Device.{Device}
 use Rattle.provider.specs.declared.Start.{Start}
@@ -20,6 +21,7 @@ pub record Valid (d : Device) : Type 0 where
   pub links : length (d .sessions .links) ≡ linkCount
   pub sessions : All Canonical (d .sessions .links)
   pub guard : guard.Valid (d .guard)
+  pub name : names.Valid (d .name)
 
 -- every event keeps it
 abbrev pub StaysValid : Type 0
@@ -28,8 +30,8 @@ StaysValid = (d : Device) (e : Event) → Valid d → Valid (next d e)
 -- a taken power-on makes it
 abbrev pub StartsValid : Type 0
 StartsValid =
-    (d : Device) (stored : List ℕ) (start : Start) → answerOf d (PowerOn stored start) ≡ Taken → Valid
-    (next d (PowerOn stored start))
+    (d : Device) (stored name : List ℕ) (start : Start) → answerOf d (PowerOn stored name start) ≡ Taken
+    → Valid (next d (PowerOn stored name start))
 
 -- the stored list written out
 abbrev pub written : Device → List ℕ

@@ -13,7 +13,10 @@ use Rattle.advertising.specs.Payload.{payload}
 use Rattle.advertising.specs.declared.Prompt.{Prompt}
 use Rattle.basics.specs.declared.Address.{Address}
 use Rattle.basics.specs.declared.Answer.the-variants.{ListMalformed}
-use Rattle.provider.specs.Rules.Device.{Effect, answers, takes, dropAll, withGuard, withKeys, withBeacon}
+use Rattle.laws.specs.Choice.{if_then_else_}
+use Rattle.names.specs.Name.{isName, nameOf, noName}
+use Rattle.names.specs.declared.Name.{Name}
+use Rattle.provider.specs.Rules.Device.{Effect, answers, takes, dropAll, withGuard, withKeys, withBeacon, withName}
 use Rattle.provider.specs.declared.Device.{Device}
 use Rattle.provider.specs.declared.Start.{Start}
 use Rattle.request_guard.specs.Guard.{fresh}
@@ -31,13 +34,15 @@ pairingMode on d = withBeacon d (record { ble = d .beacon .ble; salt = d .beacon
 abbrev pub addressRotated : Address → List ℕ → Device → Device
 addressRotated ble salt d = withBeacon d (record { ble = ble; salt = salt; pairing = d .beacon .pairing })
 
--- "Factory reset. Empties the key list and spent salts, drops every K, sets the count to 0."
+-- "Factory reset. Empties the key list and spent salts, drops every K, sets the count to 0."; document 02 (i): names are "emptied
+-- by factory reset"
 abbrev pub factoryReset : Device → Device
-factoryReset d = withKeys (withGuard (dropAll d) fresh) (kept [])
+factoryReset d = withName (withKeys (withGuard (dropAll d) fresh) (kept [])) noName
 
--- "Starts from a stored list, addresses, model ID and salt. All links idle, count 0, no spent salts, pairing mode off, clock 0."
-abbrev pub started : AccountKeys → Start → Device
-started ks s =
+-- "Starts from a stored list, addresses, model ID and salt. All links idle, count 0, no spent salts, pairing mode off, clock 0.";
+-- document 02 (i): names are "given at power-on"
+abbrev pub started : AccountKeys → Name → Start → Device
+started ks name s =
     record {
       clock = record { 0 = 0 };
       keys = ks;
@@ -45,6 +50,7 @@ started ks s =
       guard = fresh;
       identity = s .identity;
       beacon = record { ble = s .ble; salt = s .salt; pairing = false };
+      name = name;
     }
 
 -- "no device made; an earlier one stays as it was"
@@ -52,10 +58,14 @@ abbrev pub byForm : ListForm → Effect → Effect → Effect
 byForm WellFormed x y = x
 byForm Malformed x y = y
 
+-- "given at power-on (a bad one gets 14)"
+abbrev pub named : Device → AccountKeys → List ℕ → Start → Effect
+named d ks name s = if isName name then takes (started ks (nameOf name) s) else answers d ListMalformed []
+
 -- "Power-on knows only 0 and 14."
-unfoldable pub powerOn : Device → List ℕ → Start → Effect
-powerOn d stored s =
-    byForm (reading stored .form) (takes (started (reading stored .keys) s)) (answers d ListMalformed [])
+unfoldable pub powerOn : Device → List ℕ → List ℕ → Start → Effect
+powerOn d stored name s =
+    byForm (reading stored .form) (named d (reading stored .keys) name s) (answers d ListMalformed [])
 
 -- the value before any device
 abbrev pub noAddress : Address
@@ -70,6 +80,7 @@ off =
       guard = fresh;
       identity = record { public = noAddress; model = replicate 3 0 };
       beacon = record { ble = noAddress; salt = replicate 2 0; pairing = false };
+      name = noName;
     }
 
 -- "Asking for a payload changes no state and needs no clock."

@@ -10,6 +10,7 @@ use Rattle.basics.specs.Answers.{isTaken}
 use Rattle.basics.specs.declared.Answer.{Answer}
 use Rattle.basics.specs.declared.Answer.the-variants.{Taken, UnknownLink, ClockWentBack}
 use Rattle.key_based.specs.Request.{noBond}
+use Rattle.names.specs.declared.Name.{Name}
 use Rattle.pairing.specs.declared.Confirm.the-variants.{Unasked}
 use Rattle.provider.specs.declared.Beacon.{Beacon}
 use Rattle.provider.specs.declared.Checked.{Checked}
@@ -33,6 +34,7 @@ withKeys d ks =
       guard = d .guard;
       identity = d .identity;
       beacon = d .beacon;
+      name = d .name;
     }
 
 abbrev pub withSessions : Device → Sessions → Device
@@ -44,6 +46,7 @@ withSessions d ss =
       guard = d .guard;
       identity = d .identity;
       beacon = d .beacon;
+      name = d .name;
     }
 
 abbrev pub withGuard : Device → Guard → Device
@@ -55,6 +58,7 @@ withGuard d g =
       guard = g;
       identity = d .identity;
       beacon = d .beacon;
+      name = d .name;
     }
 
 abbrev pub withBeacon : Device → Beacon → Device
@@ -66,6 +70,19 @@ withBeacon d b =
       guard = d .guard;
       identity = d .identity;
       beacon = b;
+      name = d .name;
+    }
+
+abbrev pub withName : Device → Name → Device
+withName d n =
+    record {
+      clock = d .clock;
+      keys = d .keys;
+      sessions = d .sessions;
+      guard = d .guard;
+      identity = d .identity;
+      beacon = d .beacon;
+      name = n;
     }
 
 -- "Drops K on all links."
@@ -81,21 +98,21 @@ dropAt d l = withLink d l idle
 
 -- ---- what an event does
 
--- the next device with the reply, and the bytes of the lent output afterwards
+-- the next device with the reply, and the bytes of each lent output afterwards
 pub record Effect : Type 0 where
   pub gives : Outcome
-  pub leaves : List ℕ
+  pub leaves : List (List ℕ)
 
 -- an answer that hands out nothing: "An answer given before trying says 0."
 abbrev pub replyOf : Answer → Reply
-replyOf a = record { answer = a; tried = 0; bond = noBond; confirm = Unasked }
+replyOf a = record { answer = a; tried = 0; bond = noBond; confirm = Unasked; packet = 0 }
 
 abbrev pub given : Device → Answer → Outcome
 given d a = record { next = d; reply = replyOf a }
 
--- that, and the lent output stays as it was
-abbrev pub answers : Device → Answer → List ℕ → Effect
-answers d a out = record { gives = given d a; leaves = out }
+-- that, and the lent outputs stay as they were
+abbrev pub answers : Device → Answer → List (List ℕ) → Effect
+answers d a outs = record { gives = given d a; leaves = outs }
 
 -- an event that lends no output
 abbrev pub takes : Device → Effect
@@ -114,19 +131,20 @@ clockStep t d =
       guard = guardAt t (d .guard);
       identity = d .identity;
       beacon = d .beacon;
+      name = d .name;
     }
 
 -- answer 4, "clock below the stored clock": "K dropped on all links; clock stays"; else the clock step and what comes then
-unfoldable pub inTime : Device → ℕ → List ℕ → (Device → Effect) → Effect
-inTime d t out rest =
-    if ltb t (d .clock .0) then answers (dropAll d) ClockWentBack out else rest (clockStep t d)
+unfoldable pub inTime : Device → ℕ → List (List ℕ) → (Device → Effect) → Effect
+inTime d t outs rest =
+    if ltb t (d .clock .0) then answers (dropAll d) ClockWentBack outs else rest (clockStep t d)
 
 -- "Checked in this order: 1, 2, 3, 13, 4": `early` is the answer of 2, 3 and 13, and 0 if they pass
-unfoldable pub onKnownLink : Device → ℕ → ℕ → Answer → List ℕ → (Device → Effect) → Effect
-onKnownLink d l t early out rest =
-    if ltb 7 l then answers d UnknownLink out else
-    if not (isTaken early) then answers d early out else
-    inTime d t out rest
+unfoldable pub onKnownLink : Device → ℕ → ℕ → Answer → List (List ℕ) → (Device → Effect) → Effect
+onKnownLink d l t early outs rest =
+    if ltb 7 l then answers d UnknownLink outs else
+    if not (isTaken early) then answers d early outs else
+    inTime d t outs rest
 
 -- what the checks hand over to the event
 abbrev pub checkedOf : Outcome → Checked

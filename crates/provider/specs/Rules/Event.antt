@@ -1,4 +1,4 @@
--- Document 01, "The two runs of demand 3": the thirteen kinds of event by their shape, one step and whole runs.
+-- Document 01, "The two runs of demand 3": the kinds of event by their shape, with the name write of document 02 (i), one step and whole runs.
 -- Assumes nothing.
 use mathlib.Core.Bool.{Bool, not}
 use mathlib.Core.List.{List, [], _∷_}
@@ -6,20 +6,21 @@ use Prim.Native.Nat.{ℕ}
 use lib.Dec.{ltb}
 use lib.ListN.{length}
 use Rattle.laws.specs.Choice.{if_then_else_}
+use Rattle.additional_data.specs.Packet.{packetSized}
 use Rattle.basics.specs.declared.Address.{Address}
 use Rattle.basics.specs.declared.Answer.{Answer}
 use Rattle.basics.specs.declared.Answer.the-variants.{Taken, WrongLength, PasskeyTooLarge, OutputTooShort}
-use Rattle.key_based.specs.Decision.{decided, requestOutput}
+use Rattle.key_based.specs.Decision.{decided, requestOutputs, packetLength}
 use Rattle.key_based.specs.Request.{noBond, sized}
 use Rattle.key_based.specs.declared.Context.{Context}
 use Rattle.key_based.specs.declared.Decision.{Decision}
 use Rattle.key_based.specs.declared.Element.{Element}
-use Rattle.pairing.specs.Pairing.{PairingEvent, PairingStarted, ConfirmationNeeded, PasskeyWrite, PairingEnded, AccountKeyWrite, sessionStep, storedIn}
+use Rattle.pairing.specs.Pairing.{PairingEvent, PairingStarted, ConfirmationNeeded, PasskeyWrite, PairingEnded, AccountKeyWrite, NameWrite, sessionStep, storedIn, renamedIn}
 use Rattle.pairing.specs.Pairing as pairing
 use Rattle.pairing.specs.declared.SessionOutcome.{SessionOutcome}
 use Rattle.pairing.specs.declared.Confirm.the-variants.{Unasked}
 use Rattle.provider.specs.Rules.Control.{overflow, pairingMode, addressRotated, factoryReset, powerOn}
-use Rattle.provider.specs.Rules.Device.{Effect, takes, inTime, onKnownLink, withKeys, withGuard, withLink, dropAt}
+use Rattle.provider.specs.Rules.Device.{Effect, takes, inTime, onKnownLink, withKeys, withGuard, withName, withLink, dropAt}
 use Rattle.provider.specs.declared.Device.{Device}
 use Rattle.provider.specs.declared.Outcome.{Outcome}
 use Rattle.provider.specs.declared.Start.{Start}
@@ -33,30 +34,30 @@ pub data DeviceEvent : Type 0 where
   AddressRotated : (ble : Address) (salt : List ℕ) → DeviceEvent
   FactoryReset : DeviceEvent
 
--- what happens on one link; `OnSession` is a pairing, passkey or account key event
+-- what happens on one link; `OnSession` is a pairing, passkey or account key event, or a name write
 pub data LinkEvent : Type 0 where
   LinkUp : LinkEvent
   LinkDown : LinkEvent
-  KeyBasedWrite : (request : List ℕ) (element : Element) (salt out : List ℕ) → LinkEvent
+  KeyBasedWrite : (request : List ℕ) (element : Element) (salt nonce out packet : List ℕ) → LinkEvent
   OnSession : PairingEvent → LinkEvent
 
 -- "Every event except the overflow marker and power-on carries a clock": t; a link is l
 pub data Event : Type 0 where
   Overflow : Event
-  PowerOn : (stored : List ℕ) (start : Start) → Event
+  PowerOn : (stored name : List ℕ) (start : Start) → Event
   OnDevice : (t : ℕ) → DeviceEvent → Event
   OnLink : (l t : ℕ) → LinkEvent → Event
 
--- the lent output as it was beforehand
-abbrev pub lentOnLink : LinkEvent → List ℕ
+-- the lent outputs as they were beforehand
+abbrev pub lentOnLink : LinkEvent → List (List ℕ)
 lentOnLink LinkUp = []
 lentOnLink LinkDown = []
-lentOnLink (KeyBasedWrite request element salt out) = out
+lentOnLink (KeyBasedWrite request element salt nonce out packet) = out ∷ packet ∷ []
 lentOnLink (OnSession e) = pairing.lent e
 
-abbrev pub lent : Event → List ℕ
+abbrev pub lent : Event → List (List ℕ)
 lent Overflow = []
-lent (PowerOn stored start) = []
+lent (PowerOn stored name start) = []
 lent (OnDevice t e) = []
 lent (OnLink l t e) = lentOnLink e
 
@@ -76,9 +77,17 @@ responseRoom n = if ltb n 16 then OutputTooShort else Taken
 abbrev pub passkeyRange : ℕ → Answer
 passkeyRange passkey = if ltb 999999 passkey then PasskeyTooLarge else Taken
 
+-- document 02 (i): "a second output, which needs 80 bytes in every key-based write, else 13"
+abbrev pub outputsRoom : ℕ → ℕ → Answer
+outputsRoom n m = if ltb m 80 then OutputTooShort else responseRoom n
+
 -- 2, "key-based write not 16 or 80 bytes", before 13
-abbrev pub requestSize : List ℕ → ℕ → Answer
-requestSize request n = if not (sized request) then WrongLength else responseRoom n
+abbrev pub requestSize : List ℕ → ℕ → ℕ → Answer
+requestSize request n m = if not (sized request) then WrongLength else outputsRoom n m
+
+-- 2, "Any size but 16 to 80 gets 2" in a name write
+abbrev pub nameSize : List ℕ → Answer
+nameSize packet = if not (packetSized packet) then WrongLength else Taken
 
 -- the checks 2, 3 and 13 of an event, which need no device; 0 if they pass
 abbrev pub earlyOnSession : PairingEvent → Answer
@@ -87,11 +96,12 @@ earlyOnSession (ConfirmationNeeded passkey) = passkeyRange passkey
 earlyOnSession (PasskeyWrite block salt out) = responseRoom (length out)
 earlyOnSession (PairingEnded success) = Taken
 earlyOnSession (AccountKeyWrite block) = Taken
+earlyOnSession (NameWrite packet) = nameSize packet
 
 abbrev pub early : LinkEvent → Answer
 early LinkUp = Taken
 early LinkDown = Taken
-early (KeyBasedWrite request element salt out) = requestSize request (length out)
+early (KeyBasedWrite request element salt nonce out packet) = requestSize request (length out) (length packet)
 early (OnSession e) = earlyOnSession e
 
 -- what a request is decided by
@@ -103,6 +113,7 @@ contextOf d =
       pairing = d .beacon .pairing;
       keys = d .keys;
       guard = d .guard;
+      name = d .name;
     }
 
 -- the device after a request that was decided so
@@ -110,15 +121,21 @@ abbrev pub requested : Device → ℕ → Decision → Outcome
 requested d l r =
     record {
       next = withLink (withGuard d (r .guard)) l (r .session);
-      reply = record { answer = r .answer; tried = r .tried; bond = r .bond; confirm = Unasked };
+      reply = record {
+        answer = r .answer;
+        tried = r .tried;
+        bond = r .bond;
+        confirm = Unasked;
+        packet = packetLength (r .sends) (d .name);
+      };
     }
 
 -- and with what an event made of its session
 abbrev pub applied : Device → ℕ → SessionOutcome → Outcome
 applied d l a =
     record {
-      next = withLink (withKeys d (storedIn a (d .keys))) l (a .session);
-      reply = record { answer = a .answer; tried = 0; bond = noBond; confirm = a .confirm };
+      next = withLink (withName (withKeys d (storedIn a (d .keys))) (renamedIn a (d .name))) l (a .session);
+      reply = record { answer = a .answer; tried = 0; bond = noBond; confirm = a .confirm; packet = 0 };
     }
 
 -- what happens on link l at moment t, after the clock step
@@ -126,10 +143,10 @@ abbrev pub onLink : LinkEvent → Device → ℕ → ℕ → Effect
 -- "Link up, link down. Both drop that link's K, also when repeated."
 onLink LinkUp d l t = takes (dropAt d l)
 onLink LinkDown d l t = takes (dropAt d l)
-onLink (KeyBasedWrite request element salt out) d l t =
+onLink (KeyBasedWrite request element salt nonce out packet) d l t =
     record {
       gives = requested d l (decided (contextOf d) (sessionAt (d .sessions) l) t element request);
-      leaves = requestOutput (contextOf d) (sessionAt (d .sessions) l) t element request salt out;
+      leaves = requestOutputs (contextOf d) (sessionAt (d .sessions) l) t element request salt nonce out packet;
     }
 onLink (OnSession e) d l t =
     record {
@@ -140,7 +157,7 @@ onLink (OnSession e) d l t =
 -- what an event does to a device
 abbrev pub step : Device → Event → Effect
 step d Overflow = overflow d
-step d (PowerOn stored start) = powerOn d stored start
+step d (PowerOn stored name start) = powerOn d stored name start
 step d (OnDevice t e) = inTime d t [] (λ d′. takes (onDevice e d′))
 step d (OnLink l t e) = onKnownLink d l t (early e) (lentOnLink e) (λ d′. onLink e d′ l t)
 

@@ -1,50 +1,13 @@
--- The whole blocks and then the last blocks are the blocks of the padded message.
-use mathlib.Core.Path.{_≡_, sym, ap, _∙_}
-use native.Mathlib.Omega.{arith}
-use lib.ListN.{length}
-use lib.Seq.{length-take-le}
+-- Nothing is hashed before the message: all of it is left.
 use borrow.Author.Needs.{needs}
-use Rattle.sha256.specs.Hash.{joined}
+use Rattle.sha256.specs.Hash.{sha256}
+use Rattle.sha256.specs.Padding.{pad}
 use Rattle.sha256.proofs.digest.Tie as tie
-use Rattle.sha256.proofs.Laws.{end-within, sha256-two-parts}
 use Rattle.sha256.proofs.digest.Statement.{statement}
 
-array-share-prefix-blocks : tie.Need-array-share-prefix-blocks
-array-share-prefix-blocks c =
-    let made = c .before in
-    let start = made .before .before .before .before .before in
-    let long : length (made .last-blocks .result .bytes) ≡ 128 = search needs in
-    omega (arith, long, end-within (start .args .msg .now) (made .last-blocks .ensures))
-
-slice-aggregate-absorb : tie.Need-slice-aggregate-absorb
-slice-aggregate-absorb c =
-    let made = c .before .before in
-    let start = made .before .before .before .before .before in
-    let long : length (made .last-blocks .result .bytes) ≡ 128 = search needs in
-    sym (length-take-le _ _ (omega (arith, long, end-within (start .args .msg .now) (made .last-blocks .ensures))))
-
 returns : tie.Need-returns
-returns c =
-    let made = c .before .before .before .before in
-    let whole = made .before .before in
-    let start = whole .before .before .before in
-    c .to-bytes .ensures ∙ ap joined (c .before .absorb2 .ensures)
-    ∙ sha256-two-parts (start .args .msg .now) (made .last-blocks .ensures)
-    (rw (whole .absorb .ensures, whole .before .initial .ensures))
+unfolding sha256 pad
+returns c = rw (c .digest-rest .ensures, c .before .initial .ensures)
 
 pub digest-spec : {M : Type 1} → statement M
-digest-spec =
-    tie.close
-    (tie.spec
-    (λ c. search needs)
-    (λ c κs. search needs)
-    (λ c κs. search needs)
-    (λ c. search needs)
-    (λ c. search needs)
-    (λ c. search needs)
-    (λ c κs. search needs)
-    array-share-prefix-blocks
-    slice-aggregate-absorb
-    (λ c κs. search needs)
-    (λ c κs. search needs)
-    returns)
+digest-spec = tie.close (tie.spec (λ c κs. search needs) (λ c κs. search needs) returns)

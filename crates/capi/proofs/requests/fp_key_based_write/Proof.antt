@@ -11,65 +11,69 @@ use Rattle.capi.proofs.requests.fp_key_based_write.Tie as tie
 returns : tie.Need-returns
 returns c =
     let at-unpack = c .before .before .before in
-    let start = at-unpack .before .before .before in (
+    let start = at-unpack .before .before .before .before in (
       served-unknown (start .args .device) (at-unpack .unpack .ensures)
           (OnLink (start .args .link) (start .args .clock)
-          (KeyBasedWrite (start .args .request .now) (elementOf (start .args .element)) (start .args .salt .now)
-          (start .args .out .now))) (not-true (at-unpack .unpack .result .known) (c .before .if1 .taken))
-          (c .returned .ensures),
+          (KeyBasedWrite (start .args .request .now) (elementOf (start .args .element)) (start .args .salt .now) (start .args .nonce .now)
+          (start .args .out .now) (start .args .packet .now)))
+          (not-true (at-unpack .unpack .result .known) (c .before .if1 .taken)) (c .returned .ensures),
       lent-unknown (start .args .device) (at-unpack .unpack .ensures)
           (OnLink (start .args .link) (start .args .clock)
-          (KeyBasedWrite (start .args .request .now) (elementOf (start .args .element)) (start .args .salt .now)
-          (start .args .out .now))) (not-true (at-unpack .unpack .result .known) (c .before .if1 .taken)),
+          (KeyBasedWrite (start .args .request .now) (elementOf (start .args .element)) (start .args .salt .now) (start .args .nonce .now)
+          (start .args .out .now) (start .args .packet .now)))
+          (not-true (at-unpack .unpack .result .known) (c .before .if1 .taken)),
     )
 
 key-based-write-requires : tie.Need-key-based-write-requires
 key-based-write-requires c κs =
-    let at-unpack = c .before .before .before .before .before .before in
-    let start = at-unpack .before .before .before in
+    let at-read-element = c .before .before .before .before in
+    let at-unpack = at-read-element .before .before .before .before in
+    let start = at-unpack .before .before .before .before in
     read-valid (start .args .device) (at-unpack .unpack .ensures)
 
 pack-outcome-requires : tie.Need-pack-outcome-requires
 pack-outcome-requires c κs =
-    let at-key-based-write = c .before .before in
-    let at-read-element = at-key-based-write .before .before .before in
+    let at-key-based-write = c .before .before .before .before in
+    let at-read-element = at-key-based-write .before .before .before .before .before in
     let at-unpack = at-read-element .before .before .before .before in
-    let start = at-unpack .before .before .before in
+    let start = at-unpack .before .before .before .before in
     next-valid (start .args .device) (at-unpack .unpack .ensures)
     (OnLink (start .args .link) (start .args .clock)
-    (KeyBasedWrite (start .args .request .now) (elementOf (start .args .element)) (start .args .salt .now)
-    (start .args .out .now)))
-    (at-key-based-write .key-based-write .ensures .0 ∙ ap
-    (λ x. step (at-unpack .unpack .result .device)
+    (KeyBasedWrite (start .args .request .now) (elementOf (start .args .element)) (start .args .salt .now) (start .args .nonce .now)
+    (start .args .out .now) (start .args .packet .now)))
+    (at-key-based-write .key-based-write .ensures .0 ∙ ap (λ x. step (at-unpack .unpack .result .device)
     (OnLink (start .args .link) (start .args .clock)
-    (KeyBasedWrite (start .args .request .now) x (start .args .salt .now) (start .args .out .now))) .gives)
+    (KeyBasedWrite (start .args .request .now) x (start .args .salt .now) (start .args .nonce .now)
+    (start .args .out .now) (start .args .packet .now))) .gives)
     (at-read-element .read-element .ensures))
 
 returns-2 : tie.Need-returns-2
 returns-2 c =
-    let at-key-based-write = c .before .before .before in
-    let at-read-element = at-key-based-write .before .before .before in
+    let at-key-based-write = c .before .before .before .before .before in
+    let at-read-element = at-key-based-write .before .before .before .before .before in
     let at-if1 = at-read-element .before .before in
     let at-unpack = at-if1 .before .before in
-    let start = at-unpack .before .before .before in (
+    let start = at-unpack .before .before .before .before in (
       served-known (start .args .device) (at-unpack .unpack .ensures)
           (OnLink (start .args .link) (start .args .clock)
-          (KeyBasedWrite (start .args .request .now) (elementOf (start .args .element)) (start .args .salt .now)
-          (start .args .out .now))) (not-false (at-unpack .unpack .result .known) (at-if1 .if1 .left))
-          (at-key-based-write .key-based-write .ensures .0 ∙ ap
-          (λ x. step (at-unpack .unpack .result .device)
+          (KeyBasedWrite (start .args .request .now) (elementOf (start .args .element)) (start .args .salt .now) (start .args .nonce .now)
+          (start .args .out .now) (start .args .packet .now)))
+          (not-false (at-unpack .unpack .result .known) (at-if1 .if1 .left))
+          (at-key-based-write .key-based-write .ensures .0 ∙ ap (λ x. step (at-unpack .unpack .result .device)
           (OnLink (start .args .link) (start .args .clock)
-          (KeyBasedWrite (start .args .request .now) x (start .args .salt .now) (start .args .out .now))) .gives)
-          (at-read-element .read-element .ensures)) (c .pack-outcome .ensures),
-      lent-known (start .args .device)
-          (at-unpack .unpack .ensures)
+          (KeyBasedWrite (start .args .request .now) x (start .args .salt .now) (start .args .nonce .now)
+          (start .args .out .now) (start .args .packet .now))) .gives)
+          (at-read-element .read-element .ensures))
+          (c .pack-outcome .ensures),
+      lent-known (start .args .device) (at-unpack .unpack .ensures)
           (OnLink (start .args .link) (start .args .clock)
-          (KeyBasedWrite (start .args .request .now) (elementOf (start .args .element)) (start .args .salt .now)
-          (start .args .out .now))) (not-false (at-unpack .unpack .result .known) (at-if1 .if1 .left))
-          (at-key-based-write .key-based-write .ensures .1 ∙ ap
-          (λ x. step (at-unpack .unpack .result .device)
+          (KeyBasedWrite (start .args .request .now) (elementOf (start .args .element)) (start .args .salt .now) (start .args .nonce .now)
+          (start .args .out .now) (start .args .packet .now)))
+          (not-false (at-unpack .unpack .result .known) (at-if1 .if1 .left))
+          (at-key-based-write .key-based-write .ensures .1 ∙ ap (λ x. step (at-unpack .unpack .result .device)
           (OnLink (start .args .link) (start .args .clock)
-          (KeyBasedWrite (start .args .request .now) x (start .args .salt .now) (start .args .out .now))) .leaves)
+          (KeyBasedWrite (start .args .request .now) x (start .args .salt .now) (start .args .nonce .now)
+          (start .args .out .now) (start .args .packet .now))) .leaves)
           (at-read-element .read-element .ensures)),
     )
 
@@ -83,5 +87,6 @@ fp-key-based-write-spec =
     (λ c κs. search needs)
     key-based-write-requires
     pack-outcome-requires
+    (λ c. search needs)
     (λ c. search needs)
     returns-2)

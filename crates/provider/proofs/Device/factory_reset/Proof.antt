@@ -22,15 +22,17 @@ returns c =
 
 returns-2 : tie.Need-returns-2
 returns-2 c =
-    let at-new = c .before .before in
+    let at-none2 = c .before in
+    let at-none = at-none2 .before in
+    let at-new = at-none .before in
     let at-all-idle = at-new .before in
     let at-if1 = at-all-idle .before .before in
     let at-in-time = at-if1 .before .before in
     let start = at-in-time .before in
     let p = (time-passed (start .args .self) (start .args .clock .0) (at-in-time .in-time .ensures)
     (not-false (at-in-time .in-time .result .passed) (at-if1 .if1 .left))) in c .answers .ensures ∙ emptied
-    (at-in-time .in-time .result .outcome .next) (c .before .none .ensures) (at-all-idle .all-idle .ensures)
-    (at-new .new .ensures) ∙ ap (λ (d : Device). given (control.factoryReset d) Taken) (p .0) ∙ sym
+    (at-in-time .in-time .result .outcome .next) (at-none .none .ensures) (at-all-idle .all-idle .ensures)
+    (at-new .new .ensures) (at-none2 .none2 .ensures) ∙ ap (λ (d : Device). given (control.factoryReset d) Taken) (p .0) ∙ sym
     (ap (λ (x : Effect). x .gives) (p .1 [] _))
 
 pub factory-reset-spec : {M : Type 1} → statement M
@@ -39,6 +41,7 @@ factory-reset-spec =
     (tie.spec
     (λ c κs. search needs)
     returns
+    (λ c κs. search needs)
     (λ c κs. search needs)
     (λ c κs. search needs)
     (λ c κs. search needs)

@@ -5,8 +5,12 @@ use Rattle.provider.proofs.Device.off.Tie as tie
 
 returns : tie.Need-returns
 returns c =
-    let at-none = c .before .before in
-    rw (at-none .none .ensures, c .before .all-idle .ensures, c .new .ensures)
+    let at-new = c .before in
+    let at-all-idle = at-new .before in
+    let at-none = at-all-idle .before in
+    rw (at-none .none .ensures, at-all-idle .all-idle .ensures, at-new .new .ensures, c .none2 .ensures)
 
 pub off-spec : {M : Type 1} → statement M
-off-spec = tie.close (tie.spec (λ c κs. search needs) (λ c κs. search needs) (λ c κs. search needs) returns)
+off-spec =
+    tie.close
+    (tie.spec (λ c κs. search needs) (λ c κs. search needs) (λ c κs. search needs) (λ c κs. search needs) returns)

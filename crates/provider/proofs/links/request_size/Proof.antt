@@ -11,7 +11,7 @@ returns c = rw (sym (c .before .is-sized .ensures) ∙ not-true _ (c .if1 .taken
 returns-2 : tie.Need-returns-2
 returns-2 c =
     let at-is-sized = c .before .before in
-    c .response-room .ensures ∙ rw (sym (at-is-sized .is-sized .ensures) ∙ not-false _ (c .before .if1 .left))
+    c .outputs-room .ensures ∙ rw (sym (at-is-sized .is-sized .ensures) ∙ not-false _ (c .before .if1 .left))
 
 pub request-size-spec : {M : Type 1} → statement M
 request-size-spec = tie.close (tie.spec (λ c κs. search needs) returns (λ c κs. search needs) returns-2)

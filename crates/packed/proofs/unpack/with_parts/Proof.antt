@@ -5,8 +5,8 @@ use Rattle.laws.specs.Choice.{_and_}
 use Rattle.laws.proofs.Choice.{and-left}
 use Rattle.request_guard.specs.Guard.{bounded}
 use Rattle.packed.specs.Packed.{guardOf, stagesKnown}
-use Rattle.packed.proofs.unpack.with_keys.Statement.{statement}
-use Rattle.packed.proofs.unpack.with_keys.Tie as tie
+use Rattle.packed.proofs.unpack.with_parts.Statement.{statement}
+use Rattle.packed.proofs.unpack.with_parts.Tie as tie
 
 cleaned-requires : tie.Need-cleaned-requires
 cleaned-requires c κs =
@@ -20,5 +20,5 @@ returns c =
     let read = c .before .before .before .before .before .before .before .before in
     rw (c .before .cleaned .ensures, read .guard-of .ensures, c .before .before .links-of .ensures)
 
-pub with-keys-spec : {M : Type 1} → statement M
-with-keys-spec = tie.close (tie.spec (λ c κs. search needs) (λ c κs. search needs) cleaned-requires returns)
+pub with-parts-spec : {M : Type 1} → statement M
+with-parts-spec = tie.close (tie.spec (λ c κs. search needs) (λ c κs. search needs) cleaned-requires returns)

@@ -1,0 +1,3 @@
+pub mod CounterMode
+pub mod Packet
+pub mod Promises

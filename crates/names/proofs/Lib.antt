@@ -1,0 +1,4 @@
+pub mod Characters
+pub mod Continues
+pub mod Readings
+pub mod ValidNames

@@ -1,0 +1,3 @@
+pub mod Expected
+pub mod Name
+pub mod Utf8
