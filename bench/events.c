@@ -89,12 +89,12 @@ static void make_request(unsigned whose, uint8_t salt)
 	request_length = whose == SHARED ? 80 : 16;
 }
 
-static void make_blocks(void)
+static void make_blocks(unsigned written)
 {
 	static const uint8_t passkey[4] = { 0x02, PASSKEY >> 16, PASSKEY >> 8 & 0xFF, PASSKEY & 0xFF };
 	memcpy(passkey_block, passkey, sizeof passkey);
 	encrypt(SHARED, passkey_block);
-	account_key(UNKNOWN, account_block);
+	account_key(written, account_block);
 	encrypt(SHARED, account_block);
 }
 
@@ -310,20 +310,20 @@ static fp_device locked(unsigned keys)
 }
 
 /* Every place in use: five keys, sixteen salts, the longest name, a key on every link, and all keys and salts as alike as
- * can be. */
+ * can be. The requests are under the last key, so that the keys keep their places. */
 static fp_device full(unsigned keys)
 {
 	alike = true;
 	fp_device d = named(keys);
 	for (uint8_t i = 1; i <= FP_MAX_SALTS; i++) {
-		make_request(0, i);
+		make_request(keys - 1, i);
 		d = must(key_based_on(&d, i % FP_LINKS, BEFORE), FP_TAKEN);
 	}
 	return d;
 }
 
-/* ---- the rows: a name, the device and its keys, the event, what it must answer; whose key a request is under, and the
- * length of the packet with the device's name that it must leave */
+/* ---- the rows: a name, the device and its keys, the event, what it must answer; whose key a request is under or an
+ * account key write carries, and the length of the packet with the device's name that it must leave */
 
 struct row {
 	const char *name;
@@ -357,6 +357,7 @@ static const struct row rows[] = {
 	{ "key-based write of 16, 1 key, fits, name of 0 bytes sent", asked_for_empty_name, 1, key_based, 0, 1, 20, 0, 16 },
 	{ "key-based write of 16, 1 key, fits, name of 64 bytes sent", asked_for_name, 1, key_based, 0, 1, 20, 0, 80 },
 	{ "key-based write of 16, 1 key, fits, name of 64 bytes not asked for", named, 1, key_based, 0, 1, 20, 0, 0 },
+	{ "key-based write of 16, 5 keys, the first fits", powered, 5, key_based, 0, 1, 84, 0, 0 },
 	{ "key-based write of 16, 5 keys, the fifth fits", powered, 5, key_based, 0, 5, 84, 4, 0 },
 	{ "key-based write of 16, 5 keys, none fits (7)", powered, 5, key_based, 7, 5, 84, UNKNOWN, 0 },
 	{ "key-based write of 16, the fifth fits, all places in use", full, 5, key_based, 0, 5, 84, 4, 0 },
@@ -368,8 +369,9 @@ static const struct row rows[] = {
 	{ "pairing ended", proved, 0, ended, 0, 0, 4, 0, 0 },
 	{ "name write of 0 bytes, in place of 64", asked_to_unname, 0, name_write, 0, 0, 4, 0, 0 },
 	{ "name write of 64 bytes", asked_to_name, 0, name_write, 0, 0, 4, 0, 0 },
-	{ "account key write, 0 keys", paired, 0, account, 0, 0, 20, 0, 0 },
-	{ "account key write, 5 keys", paired, 5, account, 0, 0, 84, 0, 0 },
+	{ "account key write, 0 keys", paired, 0, account, 0, 0, 20, UNKNOWN, 0 },
+	{ "account key write, 5 keys", paired, 5, account, 0, 0, 84, UNKNOWN, 0 },
+	{ "account key write, 5 keys, the first written again", paired, 5, account, 0, 0, 84, 0, 0 },
 	{ "advertisement, 0 keys", powered, 0, advertisement, 0, 0, 6, 0, 0 },
 	{ "advertisement, 5 keys", powered, 5, advertisement, 0, 0, 18, 0, 0 },
 	{ "stored list, 5 keys", powered, 5, stored_list, 0, 0, 84, 0, 0 },
@@ -391,14 +393,24 @@ static fp_outcome (*interface_of(const struct row *row))(const fp_device *)
 	return row->event == advertisement || row->event == stored_list ? no_room : refused;
 }
 
+/* An account key write that is taken uses a key, and so does a request of 16 bytes: that key is the list's last then. */
+static bool used_is_last(const struct row *row, const fp_stored *stored)
+{
+	uint8_t key[16];
+	if (row->answer != FP_TAKEN || row->whose == SHARED || (row->event != account && row->event != key_based))
+		return true;
+	account_key(row->whose, key);
+	return !memcmp(stored->bytes + stored->length - sizeof key, key, sizeof key);
+}
+
 static void check(const struct row *row, const fp_device *d)
 {
 	fp_outcome o = row->event(d);
 	if (o.reply.answer == row->answer && o.reply.tried == row->tried && o.next.stored.length == row->length &&
-	    o.reply.packet_length == row->packet)
+	    o.reply.packet_length == row->packet && used_is_last(row, &o.next.stored))
 		return;
-	fprintf(stderr, "%s: answer %u, %u tried, length %u, packet of %u\n", row->name, o.reply.answer, o.reply.tried,
-		(unsigned)o.next.stored.length, o.reply.packet_length);
+	fprintf(stderr, "%s: answer %u, %u tried, length %u, packet of %u, or the used key is not last\n", row->name,
+		o.reply.answer, o.reply.tried, (unsigned)o.next.stored.length, o.reply.packet_length);
 	exit(1);
 }
 
@@ -450,7 +462,7 @@ static int list_rows(void)
 /* The checked call comes first: it also lets the loader find memcpy, which would take stack of its own. */
 static int on_row(const struct row *row, int argc, char **argv)
 {
-	make_blocks();
+	make_blocks(row->whose);
 	fp_device d = row->device(row->keys);
 	make_request(row->whose, 0);
 	check(row, &d);

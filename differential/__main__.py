@@ -26,7 +26,7 @@ def arguments():
 
 
 def compare(library, options):
-    """The exit code: 1 for a difference, or for an answer or a stage that was not reached."""
+    """The exit code: 1 for a difference, or for something that had to be reached and was not."""
     begin = time.perf_counter()
     any_bytes = AnyBytes(library, options.seed)
     tally, failure = runs(library, options.seed, options.events, options.list_length, any_bytes)

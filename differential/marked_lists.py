@@ -11,8 +11,8 @@ from reference.rules.model import step
 
 from .run_pair import RunPair, first_device
 
-# How many ways of adding markers are tried on each list.
-WAYS = 4
+# How many ways of adding markers are tried on each list that is led by the run without them.
+WAYS = 3
 LENGTHS = (20, 400)
 # From one marker in 200 events to one in 5.
 FEWEST, MOST = 0.005, 0.2
@@ -26,27 +26,39 @@ class Broken:
     what: str
 
 
-def random_list(random, seed):
-    """A list that begins with a taken power-on, led by the run without added markers."""
-    generator, device, events = Generator(seed), None, []
+def some_density(random):
+    return FEWEST * (MOST / FEWEST) ** random.random()
+
+
+def random_entries(random, seed, density):
+    """Entries (event, whether it is an added marker) from a taken power-on on, led by the run that gets the markers."""
+    generator, device, entries = Generator(seed), None, []
     length = random.randint(*LENGTHS)
-    while len(events) < length:
-        event = generator.next_event(device)
+    while len(entries) < length:
+        added = device is not None and random.random() < density
+        event = Overflow() if added else generator.next_event(device)
         device, _ = step(device, event)
         if device is not None:
-            events.append(event)
-    return events
-
-
-def with_markers(random, events):
-    """The list as entries (event, whether it is an added marker), with markers at random places."""
-    density = FEWEST * (MOST / FEWEST) ** random.random()
-    entries = [(events[0], False)]
-    for event in events[1:]:
-        while random.random() < density:
-            entries.append((Overflow(), True))
-        entries.append((event, False))
+            entries.append((event, added))
     return entries
+
+
+def with_markers(random, entries):
+    """The entries with markers added at random places."""
+    density, marked = some_density(random), entries[:1]
+    for entry in entries[1:]:
+        while random.random() < density:
+            marked.append((Overflow(), True))
+        marked.append(entry)
+    return marked
+
+
+def marked_ways(random, seed):
+    """One list with markers added in some ways, and one whose pairings go on behind the markers."""
+    unmarked = random_entries(random, seed, 0)
+    for _ in range(WAYS):
+        yield with_markers(random, unmarked)
+    yield random_entries(random, seed, some_density(random))
 
 
 def first_breach(library, entries, counts):
@@ -70,12 +82,10 @@ def run_pairs(library, seed, count):
     """Pairs of runs with so many events; the counts, and a Broken or None."""
     random, counts = Random(seed), Counter()
     while counts["events"] < count:
-        events = random_list(random, f"{seed}.{counts['lists']}")
         counts["lists"] += 1
-        for _ in range(WAYS):
-            entries = with_markers(random, events)
+        for entries in marked_ways(random, f"{seed}.{counts['lists']}"):
             counts["pairs of runs"] += 1
-            counts["events"] += len(events)
+            counts["events"] += sum(not added for _, added in entries)
             found = first_breach(library, entries, counts)
             if found:
                 return counts, Broken(entries[: found[0] + 1], found[1])

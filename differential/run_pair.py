@@ -18,6 +18,32 @@ IDLE = 9
 # Every number that a link can have in C, those above 7 too.
 EVERY_LINK = frozenset(range(256))
 NEED_A_KEY = (PasskeyWrite, AccountKeyWrite, NameWrite)
+# What an account key write or a name write writes.
+NEW_KEY, HELD_KEY, NAME = WRITTEN = ("a new key", "a held key", "a name")
+
+
+def taken_write(event, reply, stored):
+    """What a run writes by this event, if it takes it, else None."""
+    if not isinstance(event, (AccountKeyWrite, NameWrite)) or reply.answer != 0:
+        return None
+    if isinstance(event, NameWrite):
+        return NAME
+    return NEW_KEY if stored else HELD_KEY
+
+
+def parts(what, second):
+    """ "the first account key write, of a new or a held key, or name that only the first run takes" """
+    return what is not None and second.answer != 0
+
+
+def parting_by(what):
+    """Under what partings are counted."""
+    return f"partings by {what}"
+
+
+def compared_after(what):
+    """Under what events are counted that are compared after both took such a write, other links being apart."""
+    return f"compared after both took {what}, other links apart"
 
 
 def after_marker(kind):
@@ -85,6 +111,7 @@ class RunPair:
         self.second = Run(library, device)
         self.counts = counts
         self.parted = False
+        self.both_took = None
 
     def send(self, event, added):
         """What breaks the demand, or None."""
@@ -113,21 +140,25 @@ class RunPair:
         if self.parted:
             return None
         self.counts["events compared"] += 1
+        if self.both_took:
+            self.counts[compared_after(self.both_took)] += 1
         if not self.alike(event, first, second):
             return f"two runs: {event} got {first} and {second}"
         # "where the second stores a key the first stores the same"
         if not stored_second <= stored_first:
             return f"two runs: {event} stored {stored_second} in the second run alone"
-        if stored_second and hasattr(event, "link"):
-            self.counts["keys stored in the second run"] += 1
-        name_written = isinstance(event, NameWrite) and first.answer == 0
-        self.counts["names taken in the second run"] += name_written and second.answer == 0
-        # The parting: only the first run stores a key, or only it takes a name.
-        by_a_key, by_a_name = bool(stored_first - stored_second), name_written and second.answer != 0
-        self.counts["partings by a key"] += by_a_key
-        self.counts["partings by a name"] += by_a_name
-        self.parted = by_a_key or by_a_name
-        return None if self.parted else self.unequal(event)
+        what = taken_write(event, first, stored_first)
+        if parts(what, second):
+            self.parted = True
+            self.counts[parting_by(what)] += 1
+            return None
+        if what and self.links_apart():
+            self.both_took = what
+        return self.unequal(event)
+
+    def links_apart(self):
+        """Whether a link holds something else in the one run than in the other."""
+        return bytes(self.first.device.sessions) != bytes(self.second.device.sessions)
 
     def unequal(self, event):
         """What the two devices show differently, or None; up to the parting they show the same."""

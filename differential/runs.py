@@ -38,10 +38,10 @@ class Tally:
         self.rare_cases.note(before, event, after, reply)
 
     def missed(self):
-        """The answers, stages and corrupted places that no run has reached."""
-        answers, stages = not_reached(self.coverage)
+        """The answers, stages, uses of keys and corrupted places that no run has reached."""
+        answers, stages, uses = not_reached(self.coverage)
         never_tried = self.any_bytes.never_tried() if self.any_bytes else []
-        return [*answers, *stages, *never_tried]
+        return [*answers, *stages, *uses, *never_tried]
 
     def corrupt(self, place, device, event):
         """A difference of corrupted devices, now and then in a run."""

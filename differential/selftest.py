@@ -1,16 +1,20 @@
 """Whether the comparison can fail: each mistake has to be found, and its list shortened."""
 
-from . import marked_lists, result_mistakes
+from unittest import mock
+
+from . import marked_lists, result_mistakes, run_pair, use_mistakes
 from .any_bytes import AnyBytes
 from .compare import first_difference
 from .report import shortest
 from .result_mistakes import with_mistakes
+from .run_pair import HELD_KEY, compared_after
 from .runs import runs
+from .two_runs import unseen
 
 EVENTS = 6_000
 LIST = 300
-# From power-on to a stored key it takes seven events; some mistakes show only later.
-SHORT = 20
+# A stored key takes six events after power-on and pairing mode; some mistakes show only with the third.
+SHORT = 25
 
 # The function, the mistake in its results, and how the difference is called.
 MISTAKES = (
@@ -37,6 +41,18 @@ MISTAKES = (
     ("fp_passkey_write", result_mistakes.response_byte, "reply: out"),
     ("fp_passkey_write", result_mistakes.written_on_refusal, "reply: out"),
     ("fp_account_key_write", result_mistakes.next_stored, "state"),
+    ("fp_key_based_write", use_mistakes.request_uses_no_key, "state"),
+    ("fp_key_based_write", use_mistakes.request_moves_to_front, "state"),
+    ("fp_key_based_write", use_mistakes.request_swaps_with_last, "state"),
+    ("fp_key_based_write", use_mistakes.place_after_the_move, "reply: tried"),
+    ("fp_key_based_write", use_mistakes.used_with_8, "state"),
+    ("fp_key_based_write", use_mistakes.used_with_7, "state"),
+    ("fp_key_based_write", use_mistakes.used_by_80_bytes, "state"),
+    ("fp_account_key_write", use_mistakes.held_key_not_used, "state"),
+    ("fp_account_key_write", use_mistakes.last_evicted, "state"),
+    ("fp_account_key_write", use_mistakes.used_with_12, "state"),
+    ("fp_power_on", use_mistakes.list_reversed, "state"),
+    ("fp_overflow", use_mistakes.first_key_used, "state"),
     ("fp_name_write", result_mistakes.name_answer, "reply: answer"),
     ("fp_name_write", result_mistakes.name_not_taken, "state"),
     ("fp_name_write", result_mistakes.name_taken_with_15, "state"),
@@ -80,6 +96,15 @@ WITH_TWO_RUNS = (
     ("fp_link_up", result_mistakes.stores_a_key, "after a marker"),
     ("fp_pairing_ended", result_mistakes.stores_a_key, "after a marker"),
     ("fp_key_based_write", result_mistakes.stores_a_key, "after a marker"),
+    ("fp_key_based_write", use_mistakes.request_uses_no_key_beside_others, "two runs: stored lists"),
+    ("fp_account_key_write", use_mistakes.held_key_placed_by_links, "two runs: stored lists"),
+    ("fp_account_key_write", use_mistakes.used_with_9, "two runs: stored lists"),
+    ("fp_overflow", use_mistakes.first_key_used, "two runs"),
+)
+# Two runs that part at a wrong place, and what they then show on the right library.
+WRONG_PARTINGS = (
+    ("parts", use_mistakes.parts_by_no_held_key, "two runs: stored lists"),
+    ("parts", use_mistakes.parts_by_every_write, compared_after(HELD_KEY)),
 )
 
 
@@ -115,10 +140,30 @@ def in_two_runs(library, name, mistake, called):
     return f"found in {len(failure.entries)} events, shortened to {len(entries)}"
 
 
+def in_wrong_parting(library, name, wrong, called):
+    """Found by a breach, or by what is then never seen."""
+    if two_runs_show(library):
+        return None
+    with mock.patch.object(run_pair, name, wrong):
+        shown = two_runs_show(library)
+    return next((f"found: {called}" for one in shown if one.startswith(called)), None)
+
+
+def two_runs_show(library):
+    """A breach in words, and what was never seen."""
+    counts, failure = marked_lists.run_pairs(library, 1, EVENTS)
+    return [failure.what] if failure else unseen(counts)
+
+
 def selftest(library):
     """The exit code: 1 if a mistake was not found."""
     missed = 0
-    ways = {in_lists: MISTAKES, in_any_bytes: WITH_ANY_BYTES, in_two_runs: WITH_TWO_RUNS}
+    ways = {
+        in_lists: MISTAKES,
+        in_any_bytes: WITH_ANY_BYTES,
+        in_two_runs: WITH_TWO_RUNS,
+        in_wrong_parting: WRONG_PARTINGS,
+    }
     for look, mistakes in ways.items():
         for name, mistake, called in mistakes:
             found = look(library, name, mistake, called)

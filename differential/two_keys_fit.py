@@ -33,14 +33,22 @@ def write(random, block, clock):
     return KeyBasedWrite(link, clock, block, True, secret, salt, nonce, *outputs)
 
 
+def plain_request(random, key, address):
+    """A request that this key alone fits, as good as surely; its use puts the key last."""
+    return encrypt(key, bytes([REQUEST, 0]) + address + random.randbytes(8))
+
+
 def listed(random):
-    """Power-on with both keys, then the block; a spent salt must not lead to the second key."""
+    """Power-on with both keys, then the block again and again: a spent salt must not lead to the other key."""
     block, one, other = one_block(random)
     keys = different_keys(random, random.randrange(4)) + [one[0], other[0]]
     random.shuffle(keys)
     public, ble = random.sample((one[1], other[1]), 2)
     start = PowerOn(pack(keys), b"two keys fit", public, ble, random.randbytes(3), random.randbytes(2))
-    return [start, *(write(random, block, clock) for clock in range(4))]
+    # In between, each of the two is put behind the other, so that the block fits the other first.
+    last_one, last_other = (plain_request(random, key, address) for key, address in (one, other))
+    blocks = (block, last_other, block, last_one, block, block)
+    return [start, *(write(random, data, clock) for clock, data in enumerate(blocks))]
 
 
 def difference(library, seed):

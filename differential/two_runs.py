@@ -9,18 +9,20 @@ from reference.rules.events import KINDS_ON_A_LINK
 from .library import load
 from .marked_lists import breach, run_pairs, shortest
 from .report import archive
-from .run_pair import after_marker
+from .run_pair import WRITTEN, after_marker, compared_after, parting_by
 from .setup_error import exit_in_words
 
 # What has to be seen, or the test could not have failed.
 NEEDED = (
-    "partings by a key",
-    "partings by a name",
-    "keys stored in the second run",
-    "names taken in the second run",
+    *map(parting_by, WRITTEN),
+    *map(compared_after, WRITTEN),
     "only the second got 9",
     *map(after_marker, KINDS_ON_A_LINK),
 )
+
+
+def unseen(counts):
+    return [name for name in NEEDED if not counts[name]]
 
 
 def failed(library, failure):
@@ -51,9 +53,8 @@ def main():
     if failure:
         print(failed(library, failure))
         return 1
-    unseen = [name for name in NEEDED if not counts[name]]
-    print(f"never seen: {unseen}" if unseen else "demand 3 held")
-    return 1 if unseen else 0
+    print(f"never seen: {unseen(counts)}" if unseen(counts) else "demand 3 held")
+    return 1 if unseen(counts) else 0
 
 
 if __name__ == "__main__":

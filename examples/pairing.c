@@ -23,6 +23,8 @@
 
 static const char *list_path, *name_path;
 static fp_device device;
+static fp_stored saved_list; /* what was saved last */
+static fp_name saved_name;
 
 static void stop(const char *what, const char *why)
 {
@@ -101,25 +103,27 @@ static void save(const char *what, const char *path, const uint8_t *bytes, uint6
 static void save_list(const fp_stored *stored)
 {
     save("list", list_path, stored->bytes, stored->length);
+    saved_list = *stored;
 }
 
 static void save_name(const fp_name *name)
 {
     save("name", name_path, name->bytes, name->length);
+    saved_name = *name;
 }
 
-/* What follows every event: its answer is told, a changed list or name is saved, and the next device replaces the old one.
- * Gives back the reply. */
+/* What follows every event: its answer is told, the next device replaces the old one, and the list and the name are saved
+ * if they are not what was saved last. Gives back the reply. */
 static fp_reply served(const char *event, fp_outcome outcome, uint8_t expected)
 {
     fp_reply reply = outcome.reply;
     tell(event, reply.answer);
-    if (memcmp(&outcome.next.stored, &device.stored, sizeof device.stored) != 0)
-        save_list(&outcome.next.stored);
-    if (memcmp(&outcome.next.name, &device.name, sizeof device.name) != 0)
-        save_name(&outcome.next.name);
     device = outcome.next;
     explicit_bzero(&outcome, sizeof outcome); /* a copy of every key */
+    if (memcmp(&device.stored, &saved_list, sizeof saved_list) != 0)
+        save_list(&device.stored);
+    if (memcmp(&device.name, &saved_name, sizeof saved_name) != 0)
+        save_name(&device.name);
     if (reply.answer != expected)
         stop(event, "another answer was expected");
     return reply;
@@ -186,6 +190,8 @@ static void power_on(void)
         save_list(&device.stored);
         save_name(&device.name);
     }
+    saved_list = device.stored; /* as read, as saved just now, or the factory's */
+    saved_name = device.name;
 }
 
 /* ---- events */
@@ -284,6 +290,7 @@ int main(int argc, char **argv)
     events_lost();
     advertise();
     explicit_bzero(&device, sizeof device);
+    explicit_bzero(&saved_list, sizeof saved_list);
     printf("every answer was the one expected\n");
     return 0;
 }

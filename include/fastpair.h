@@ -53,17 +53,42 @@
  * device, or an empty one (NULL, 0). Begin with fp_off(): a device filled with zeros is another value, its list is no
  * list, and it gets 255.
  *
- * Saving: save the stored list when `next.stored` differs from the `stored` of the device before, and only then (memcmp
- * over the whole struct tells). Only an account key write and a factory reset change it. Save it before you serve the
- * next event, and so that a power cut leaves the old list or the new one.
+ * Order of use: the account keys stand in the order in which they were last used, the most recent last. A key is used
+ * when it is stored, when it is written again, and when a request of 16 bytes under it is accepted. It then moves to the
+ * end, and the others keep their order. If a new key is stored in a full list, the first is removed: the least recently
+ * used.
  *
- * Save the name in the same way, and hand it in at power-on. It may have changed after an fp_name_write that got FP_TAKEN
- * and after an fp_factory_reset that got FP_TAKEN, and after nothing else: compare `next.name` with what you saved last
- * (memcmp over the whole struct tells). A factory reset leaves an empty name, and the maker's does not come back by itself:
- * if you want it back, hand it in at the next power-on in place of an empty one.
+ * Saving: save the stored list, `next.stored`, and hand it in at the next power-on. It may have changed after these calls,
+ * if they got FP_TAKEN, and after nothing else:
  *
- * Secrets: an fp_device holds the session keys and the owners' account keys. Wipe every old copy that you leave, with a
- * function that the compiler does not remove (as explicit_bzero). The core does not wipe the stack that its calls used.
+ *     fp_account_key_write    the key was stored, or it was held already and moved to the end
+ *     fp_key_based_write      with a request of 16 bytes: the key that fits moved to the end; no key came or went
+ *     fp_factory_reset        every key is gone
+ *
+ * A power-on with FP_TAKEN gives the list that was handed in. Save the list if it differs from what you saved last, and
+ * only then: keep a copy of that (memcmp over the whole struct tells). Do not compare with the device before: a change
+ * that was not saved at once would be missed. Save so that a power cut leaves the old list or the new one.
+ *
+ * After fp_account_key_write and fp_factory_reset save before you serve the next event. A power cut before that loses the
+ * new owner's key, or brings removed keys back. After fp_key_based_write only the order can have changed, and you may put
+ * the save off: until the phone's link is down, or the device is switched off. A power cut before the save brings back the
+ * order of the last one. No key is lost by that and none comes back, but a sixth owner may then remove one who used the
+ * device more recently than another. Firmware that never saves after a request keeps its owners too, and forgets these
+ * uses at every power-on.
+ *
+ * Flash wear: a request under the key that is last already changes nothing. One phone that connects again and again costs
+ * no save; two that take turns cost one each time. A recorded request that is sent again gets 8 while its salt is
+ * remembered: until 16 other requests were accepted, or until power-on. After that it counts as a use, if the address in
+ * it is still the device's. If your flash bears few writes, limit how often you save the order alone.
+ *
+ * Save the name too, before you serve the next event, and hand it in at power-on. It may have changed after an
+ * fp_name_write that got FP_TAKEN and after an fp_factory_reset that got FP_TAKEN, and after nothing else: compare
+ * `next.name` with what you saved last (memcmp over the whole struct tells). A factory reset leaves an empty name, and the
+ * maker's does not come back by itself: if you want it back, hand it in at the next power-on in place of an empty one.
+ *
+ * Secrets: an fp_device holds the session keys and the owners' account keys, and an fp_stored the account keys. Wipe every
+ * old copy that you leave, with a function that the compiler does not remove (as explicit_bzero). The core does not wipe
+ * the stack that its calls used.
  */
 #ifndef FASTPAIR_H
 #define FASTPAIR_H
@@ -73,9 +98,9 @@
 #include <stdint.h>
 
 /* The version of this interface; docs/CHANGES.md says what changed. */
-#define FP_VERSION "4.1.0"
+#define FP_VERSION "4.2.0"
 #define FP_VERSION_MAJOR 4
-#define FP_VERSION_MINOR 1
+#define FP_VERSION_MINOR 2
 #define FP_VERSION_PATCH 0
 
 #ifdef __cplusplus
@@ -163,7 +188,8 @@ typedef struct {
     uint8_t reserved[3];
 } fp_session;
 
-/* The owners' account keys as the stored list, ready to be saved: the first `length` bytes. */
+/* The owners' account keys as the stored list, ready to be saved: the first `length` bytes; the others are zero. The keys
+ * stand in order of use: the first is the least recently used, and the next to be removed from a full list. */
 typedef struct {
     uint64_t length;
     uint8_t bytes[FP_STORED_LIST_MAX];
@@ -219,7 +245,9 @@ typedef struct {
     fp_address address;
 } fp_bond;
 
-/* All that an answer hands out. `tried` is the number of account keys (or the one shared key) that were tried.
+/* All that an answer hands out. `tried` is the number of account keys (or the one shared key) that were tried. If an
+ * account key fits, it is that key's place, counted from 1, in the list of the device that was handed in: before the key
+ * moved to the end. An owner's place changes with use, so it is no number for an owner.
  * `packet_length` is 16 to 80 if a key-based write left a packet with the name of that length, and 0 if there is none. */
 typedef struct {
     uint8_t answer;
@@ -277,8 +305,9 @@ FP_LAYOUT(sizeof(fp_outcome) == 632 && sizeof(fp_report) == 16);
 fp_device fp_off(void);
 
 /* Starts from the stored list as fp_stored_list wrote it, and from the name as it was saved: `name_length` bytes, 0 to 64.
- * At first boot these are 00 02 01 00 and the maker's name or none. The clock becomes 0, and start.salt is two fresh random
- * bytes. FP_TAKEN, FP_LIST_MALFORMED or FP_NOT_A_DEVICE.
+ * At first boot these are 00 02 01 00 and the maker's name or none. The list's order is taken as order of use, also that of
+ * a list which an earlier version wrote. The clock becomes 0, and start.salt is two fresh random bytes. FP_TAKEN,
+ * FP_LIST_MALFORMED or FP_NOT_A_DEVICE.
  *
  * After FP_LIST_MALFORMED no device was made, and the one handed in comes back. Serve no events with fp_off(). The same
  * bytes get the same answer again: try a second copy if you keep one. It may be the list or the name. Try the list with an
@@ -308,7 +337,7 @@ fp_outcome fp_pairing_mode(fp_device device, uint8_t on, uint64_t clock);
 fp_outcome fp_address_rotated(fp_device device, fp_address ble, const uint8_t salt[2], uint64_t clock);
 
 /* Forgets the owners' keys, the spent salts, the failures, every link's key and the name, which is empty then. With
- * FP_TAKEN save the stored list if it changed, and the name if it changed. */
+ * FP_TAKEN save the stored list and the name, each if it is not what you saved last. */
 fp_outcome fp_factory_reset(fp_device device, uint64_t clock);
 
 /* ---- events on a link, 0 to 7; `clock` is in milliseconds and never goes back while the device is on */
@@ -325,6 +354,10 @@ fp_outcome fp_link_down(fp_device device, uint8_t link, uint64_t clock);
  * reply.packet_length is its length: 16 and the name's length. Notify `out` first and then the packet, on the Additional
  * Data characteristic. If it did not ask, and with every other answer, reply.packet_length is 0 and `packet` is untouched.
  *
+ * With FP_TAKEN and a request of 16 bytes the key that fits is the last of next.stored. Save the list if it is not what
+ * you saved last; since only the order changed, that may be put off (see "Saving" above). A request of 80 bytes and every
+ * refusal leave the list as it was.
+ *
  * The outputs need FP_RESPONSE_SIZE and FP_PACKET_MAX bytes, in every call: else 13. They do not overlap.
  *
  * Ten requests in a row that no key fits get 7. All requests then get 5, until 300,000 ms after the tenth. */
@@ -336,8 +369,8 @@ fp_outcome fp_key_based_write(fp_device device, uint8_t link, uint64_t clock, co
  * accepted request to the end of the pairing, and more than once. FP_TAKEN and FP_NAME_REFUSED leave the link's key, stage
  * and timer as they are. An idle link gets 9. After a pairing that ended with success it gets 10.
  *
- * With FP_TAKEN the name is next.name: save it if it changed. A packet of 16 bytes makes it empty. There is no response to
- * notify. */
+ * With FP_TAKEN the name is next.name: save it if it is not what you saved last. A packet of 16 bytes makes it empty.
+ * There is no response to notify. */
 fp_outcome fp_name_write(fp_device device, uint8_t link, uint64_t clock, const uint8_t *packet, size_t packet_length);
 
 /* The phone asked to pair; `capability` is its IO capability byte. No timer runs until a confirmation is needed. */
@@ -356,14 +389,16 @@ fp_outcome fp_passkey_write(fp_device device, uint8_t link, uint64_t clock, cons
  * the account key write has to come in less than 10,000 ms. */
 fp_outcome fp_pairing_ended(fp_device device, uint8_t link, uint64_t clock, uint8_t success);
 
-/* A write to the account key characteristic. With FP_TAKEN save the stored list, next.stored, if it changed: a key that
- * was held already leaves it as it was. */
+/* A write to the account key characteristic. With FP_TAKEN the key that was written is the last of next.stored: a new one,
+ * for which the first is removed if five were held, or one that was held already and moved to the end. Save the list
+ * before the next event if it is not what you saved last: a key that was last already leaves it as it was. */
 fp_outcome fp_account_key_write(fp_device device, uint8_t link, uint64_t clock, const uint8_t *block,
                                 size_t block_length);
 
 /* ---- questions: they change nothing and need no clock */
 
-/* The advertising data, one AD structure; `hide` is 0 to show the pairing prompt, and any other number to hide it. */
+/* The advertising data, one AD structure; `hide` is 0 to show the pairing prompt, and any other number to hide it. The
+ * order of the keys changes no byte of it, so it is the same before and after an accepted request. */
 fp_report fp_advertisement(fp_device device, uint8_t hide, uint8_t *out, size_t out_length);
 
 /* The stored list, for memory that lasts. */

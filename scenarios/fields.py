@@ -61,6 +61,10 @@ class Fields:
     def has(self, name):
         return name in self.values
 
+    def seen(self, name):
+        """The value of the field, or None; it has still to be taken."""
+        return self.values.get(name)
+
     def text(self, name, default=None):
         """The value of the field as it stands."""
         value = self.values.pop(name, default)

@@ -17,6 +17,7 @@ from .names import (
     REQUEST_SALT,
     ROOM,
     SECRET,
+    SECRETS,
     key_named,
     lent,
     second_lent,
@@ -142,7 +143,9 @@ def factory_reset(fields):
 def key_based_write(fields):
     link, clock = link_and_clock(fields)
     accepted = not fields.bare("point rejected")
-    brought = accepted, SECRET, REQUEST_SALT, fields.sized_bytes("nonce", 8, NONCE)
+    # A request of 16 bytes comes with a secret as well, which is not read.
+    secret = SECRETS.get(fields.seen("with"), SECRET)
+    brought = accepted, secret, REQUEST_SALT, fields.sized_bytes("nonce", 8, NONCE)
     data, out = request_data(fields), output(fields)
     second = second_lent(fields.number("second lent", ROOM))
     return events.KeyBasedWrite(link, clock, data, *brought, out, second)

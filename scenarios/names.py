@@ -19,6 +19,9 @@ PUBLIC_KEY = bytes.fromhex(
     "36ac682c508215668fbefe247d01d5eb96e6318e855b2d64b5195d38ee7e37be"
     "1838c0b948c3f75520e07e70f07291419ace2d28143c5adb2dbd98ee3c8e4fbf"
 )
+# Its key begins with 04, so that it can be held as an account key.
+SECOND_SECRET = bytes(range(0x11, 0x31))
+SECRETS = {"shared secret": SECRET, "second secret": SECOND_SECRET}
 
 # The salts that come with the events, and the one in a seeker's passkey block.
 REQUEST_SALT = bytes(range(0x51, 0x5A))
@@ -50,7 +53,8 @@ def second_lent(size):
 
 # The keys that a phone can encrypt with.
 KEYS = {f"key {digit}": account_key(digit) for digit in range(1, 16)}
-KEYS["shared secret"] = session_key(SECRET)
+KEYS |= {name: session_key(secret) for name, secret in SECRETS.items()}
+KEYS["key 0"] = KEYS["second secret"]
 
 
 def key_named(name):

@@ -3,7 +3,7 @@
 from reference.generator import seeker_blocks
 
 from .fields import TextError, as_bytes
-from .names import ADDRESSES, PUBLIC_KEY, SEEKER_NONCE, SEEKER_SALT, key_named
+from .names import ADDRESSES, PUBLIC_KEY, SECRETS, SEEKER_NONCE, SEEKER_SALT, key_named
 
 # A seeker's passkey has 3 bytes.
 MOST_PASSKEY = 2**24 - 1
@@ -15,7 +15,7 @@ def request_data(fields):
         return fields.bytes("bytes")
     name = fields.text("with")
     block = request_block(fields, key_named(name))
-    return resized(fields, block + PUBLIC_KEY, 80 if name == "shared secret" else 16)
+    return resized(fields, block + PUBLIC_KEY, 80 if name in SECRETS else 16)
 
 
 def request_block(fields, key):

@@ -31,16 +31,16 @@ def arguments():
 
 
 def main():
-    """The exit code: 1 if an answer or a stage was not reached."""
+    """The exit code: 1 if an answer, a stage or a use of a key was not reached."""
     options = arguments()
     coverage, rare_cases, seconds = run(options.events, options.seed)
-    answers, stages = not_reached(coverage)
+    answers, stages, uses = not_reached(coverage)
     print(table(coverage))
     for name, times in rare_cases.counts.items():
         print(f"{times:>7}  {name}")
-    print(f"answers not reached: {answers}; stages not reached: {stages}")
+    print(f"answers not reached: {answers}; stages not reached: {stages}; uses not reached: {uses}")
     print(f"{options.events} events, seed {options.seed}: {seconds:.1f} s")
-    return 1 if answers or stages else 0
+    return 1 if answers or stages or uses else 0
 
 
 if __name__ == "__main__":

@@ -1,9 +1,10 @@
-"""Counts what a run has reached: answers, answers of each kind of event, stages."""
+"""Counts what a run has reached: answers, answers of each kind of event, stages, uses of account keys."""
 
 from collections import Counter
 
 from ..rules.device import Stage
 from ..rules.events import KINDS
+from .uses import Uses
 
 ANSWERS = range(16)
 
@@ -15,6 +16,7 @@ class Coverage:
         self.answers = Counter()
         self.pairs = Counter()
         self.stages = Counter()
+        self.uses = Uses()
 
     def note(self, before, event, after, reply):
         """One event, the states around it, and its reply."""
@@ -22,6 +24,7 @@ class Coverage:
         self.pairs[type(event).__name__, reply.answer] += 1
         for stage in stages_entered(before, after):
             self.stages[stage] += 1
+        self.uses.note(before, event, after, reply)
 
 
 def stages_entered(before, after):
@@ -33,10 +36,10 @@ def stages_entered(before, after):
 
 
 def not_reached(coverage):
-    """The answers and the stages that the run has not reached."""
+    """The answers, the stages and the uses that the run has not reached."""
     answers = [answer for answer in ANSWERS if not coverage.answers[answer]]
     stages = [stage.value for stage in Stage if not coverage.stages[stage]]
-    return answers, stages
+    return answers, stages, coverage.uses.missed()
 
 
 def table(coverage):
@@ -49,4 +52,5 @@ def table(coverage):
     rows.append("all".ljust(20) + totals)
     stages = ", ".join(f"{stage.value} {coverage.stages[stage]}" for stage in Stage)
     rows.append("stages entered: " + stages)
+    rows += [f"{times:>7}  {name}" for name, times in coverage.uses.counts.items()]
     return "\n".join(rows)

@@ -106,6 +106,14 @@ class Generator:
             return self.fitting_request(device)
         return self.on_link(pairing_events.EXPECTED[device.links[link].stage], device, link)
 
+    def furthest_event(self, device):
+        """The event that the link which has come furthest waits for, so that account keys are written soon."""
+        for stage in reversed(Stage):
+            link = busy_link(self.random, device, (stage,))
+            if link is not None:
+                return self.on_link(pairing_events.EXPECTED[stage], device, link)
+        return self.fitting_request(device)
+
     def failing_event(self, device):
         """An event that ends a link's pairing, most often one with a bad block."""
         stages = pairing_events.WITH_BLOCKS if self.chance(0.5) else Stage

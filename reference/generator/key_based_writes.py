@@ -5,7 +5,7 @@ from dataclasses import replace
 from ..rules.aes import encrypt
 from ..rules.events import KeyBasedWrite
 from ..rules.key_based import MOST_FAILURES
-from . import seeker_blocks
+from . import known_secrets, seeker_blocks
 from .random_values import account_key, lent_output, lent_packet, other_bit, resized, weighted
 
 # "The salt is bytes 14 to 15 if flags 0x40 or 0x10 is set, else 8 to 15."
@@ -43,7 +43,7 @@ def encrypted(random, device, link, clock, raw):
         key = random.choice(device.keys)
         # The element's result is not read here, so it may be anything.
         return write(random, link, clock, encrypt(key, raw), False, random.random() < 0.5)
-    return public_request(random, link, clock, raw, True)
+    return public_request(random, device, link, clock, raw, True)
 
 
 def raw_request(random, device, flags, tail, kind=0x00, address=None):
@@ -127,18 +127,19 @@ def nonfitting(random, device, history, link, clock):
         return write(random, link, clock, encrypt(key, raw), False)
     if way == "key of the other way":
         return key_of_other_way(random, device, link, clock, raw)
-    return public_request(random, link, clock, raw, False)
+    return public_request(random, device, link, clock, raw, False)
 
 
 def with_public_key(random, device, history, link, clock):
     """A right request of 80 bytes, whatever the pairing mode."""
     flags, tail = fresh(random)
-    return public_request(random, link, clock, raw_request(random, device, flags, tail), True)
+    return public_request(random, device, link, clock, raw_request(random, device, flags, tail), True)
 
 
-def public_request(random, link, clock, raw, accepted):
-    """80 bytes, encrypted with the key of the secret."""
-    secret = random.randbytes(32)
+def public_request(random, device, link, clock, raw, accepted):
+    """80 bytes, encrypted with the key of a secret: most often one whose key is held, if there is any."""
+    held = known_secrets.held_secrets(device)
+    secret = random.choice(held) if held and random.random() < 0.6 else random.randbytes(32)
     block = encrypt(seeker_blocks.session_key(secret), raw)
     return write(random, link, clock, block, True, accepted, secret)
 

@@ -8,7 +8,7 @@ from ..rules.events import (
     PairingStarted,
     PasskeyWrite,
 )
-from . import seeker_blocks
+from . import known_secrets, seeker_blocks
 from .random_values import (
     NO_ACCOUNT_KEY,
     account_key,
@@ -64,15 +64,17 @@ def account_key_write(random, device, history, link, clock):
 
 
 def some_account_key(random, device, history):
-    """A new key, one that is held, one that was held, or one close to a held one."""
+    """A new key, one that is held, one that was held, one close to a held one, or one of a known secret."""
     earlier = history.earlier_keys(device)
     held = 1 if device.keys else 0
-    rates = {"new": 10, "held": 4 * held, "close": held, "earlier": 2 if earlier else 0}
+    rates = {"new": 9, "held": 6 * held, "close": held, "earlier": 2 if earlier else 0, "of a secret": 2}
     way = weighted(random, rates)
     if way == "new":
         return account_key(random)
     if way == "earlier":
         return random.choice(earlier)
+    if way == "of a secret":
+        return random.choice(known_secrets.KEYS)
     key = random.choice(device.keys)
     return key if way == "held" else close_key(random, key)
 

@@ -1,6 +1,7 @@
 """Small random values that every part of the generator uses."""
 
 from ..rules.device import Stage
+from . import known_secrets
 
 NO_ACCOUNT_KEY = (0x00, 0x02, 0x03, 0x05, 0x84, 0xFF)
 
@@ -16,7 +17,7 @@ def account_key(random):
 
 
 def different_keys(random, count, known=()):
-    """Different account keys, some of them known from before, some close to the one before."""
+    """Different account keys, some of them known from before, some close to the one before, some of a known secret."""
     keys = []
     while len(keys) < count:
         key = some_key(random, known, keys)
@@ -26,10 +27,12 @@ def different_keys(random, count, known=()):
 
 
 def some_key(random, known, keys):
-    chance = random.random()
-    if known and chance < 0.4:
+    way = weighted(random, {"new": 5, "known": 4 if known else 0, "close": 1 if keys else 0, "of a secret": 1})
+    if way == "known":
         return random.choice(known)
-    return close_key(random, keys[-1]) if keys and chance > 0.9 else account_key(random)
+    if way == "of a secret":
+        return random.choice(known_secrets.KEYS)
+    return close_key(random, keys[-1]) if way == "close" else account_key(random)
 
 
 def close_key(random, key):

@@ -124,10 +124,10 @@ class RareCases:
         self.met("long salt ends with a remembered short one", ends_with)
 
     def account_key(self, before, after):
-        self.met("held key written again", before.keys == after.keys)
-        self.met("key stored", before.keys != after.keys)
-        full = len(before.keys) == MOST_KEYS
-        self.met("key evicted", full and before.keys != after.keys)
+        held = set(before.keys) == set(after.keys)
+        self.met("held key written again", held)
+        self.met("key stored", not held)
+        self.met("key evicted", not held and len(before.keys) == MOST_KEYS)
 
     def missed(self):
         """The cases that the run did not meet."""

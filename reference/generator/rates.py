@@ -3,6 +3,7 @@
 # How often each phase comes, and how many events it has.
 PHASES = {
     "pairings": 10,
+    "uses": 3,
     "failures": 3.5,
     "lockouts": 3.5,
     "salts": 4,
@@ -13,6 +14,7 @@ PHASES = {
 }
 LENGTHS = {
     "pairings": (20, 80),
+    "uses": (40, 80),
     "failures": (20, 45),
     "lockouts": (25, 50),
     "salts": (30, 60),
@@ -28,6 +30,9 @@ ACTIONS = {
         "fitting_request": 16, "expected_event": 64, "failing_event": 7, "any_pairing_event": 4,
         "event_after_drop": 2, "nonfitting_request": 3, "replayed_request": 2, "wrong_size_request": 2,
         "name_write": 16, "device_event": 7,
+    },
+    "uses": {
+        "furthest_event": 80, "fitting_request": 12, "replayed_request": 4, "public_key_request": 2, "device_event": 2,
     },
     "failures": {
         "nonfitting_request": 70, "replayed_request": 6, "public_key_request": 4, "fitting_request": 3,
@@ -60,6 +65,7 @@ ACTIONS = {
 STEADY = {"small step": 985, "earlier": 8, "stage limit": 5}
 CLOCKS = {
     "pairings": {"small step": 950, "stage limit": 20, "earlier": 8, "far ahead": 3},
+    "uses": STEADY,
     "failures": {"small step": 850, "failure limit": 70, "earlier": 8},
     "lockouts": STEADY,
     "salts": STEADY,

@@ -32,6 +32,7 @@ class Session:
 class Device:
     """ "All links idle, count 0, no spent salts, pairing mode off, clock 0." """
 
+    # "The list order becomes order of use."
     keys: tuple[bytes, ...]
     name: bytes
     public: bytes

@@ -2,6 +2,7 @@
 
 from hashlib import sha256
 
+from .account_keys import used
 from .aes import decrypt, encrypt
 from .device import Session, Stage, hold
 from .events import Reply, plain_reply
@@ -78,7 +79,9 @@ def count_failure(device):
 def accept(device, event, place, key, request):
     """ "remember the salt, count becomes 0, K replaces the link's key, stage asked" """
     spent = (device.spent + (salt_of(request),))[-MOST_SALTS:]
-    device = device.copy(spent=spent, failures=0)
+    # A use is "being the key of an accepted 16-byte request": 80 bytes use none, even if their K equals a held key.
+    keys = used(device.keys, key) if len(event.data) == 16 else device.keys
+    device = device.copy(keys=keys, spent=spent, failures=0)
     device = hold(device, event.link, Session(key, Stage.ASKED, device.clock))
     # "the response is 0x01, public address (6), event salt (9), encrypted with K"
     response = encrypt(key, bytes([RESPONSE]) + device.public + event.salt)

@@ -1,7 +1,8 @@
 """The pairing, passkey and account key events, after the clock step."""
 
+from .account_keys import with_key
 from .aes import decrypt, encrypt
-from .device import MOST_KEYS, Session, Stage, drop, hold
+from .device import Session, Stage, drop, hold
 from .events import Reply, plain_reply
 from .lent_output import put
 
@@ -111,13 +112,5 @@ def account_key_write(device, event):
         return refuse(device, event, 12)
     # "K is dropped whatever the answer from 0 or 9 to 12."
     device = drop(device, event.link)
+    # "A use is being stored, being written again, or .."
     return device.copy(keys=with_key(device.keys, key)), plain_reply(event, 0)
-
-
-def with_key(keys, key):
-    """The key list after an account key was written."""
-    # "A key already held leaves the list unchanged"
-    if key in keys:
-        return keys
-    # "if the list is full, the key stored longest ago is removed; the new one goes last"
-    return (keys + (key,))[-MOST_KEYS:]

@@ -22,6 +22,7 @@ def stored_list(device):
 
 def read_stored_list(data):
     """The keys of a stored list, or None if it is malformed."""
+    # "Stored lists keep their layout; an old one is read as if its order were use."
     if len(data) < HEADER:
         return None
     length = int.from_bytes(data[:2], "big")

@@ -24,6 +24,8 @@ SEEKER = bytes.fromhex("D0D1D2D3D4D5")
 RESPONSE_SALT = bytes(range(0x70, 0x79))
 PASSKEY_SALT = bytes(range(0x50, 0x5C))
 SECRET = bytes(range(32))
+# The key of this secret is an account key: it begins with 0x04.
+SECRET_OF_ACCOUNT_KEY = bytes(range(0x11, 0x31))
 OUT = bytes(range(0xE0, 0xF4))
 NONCE = bytes(range(0x40, 0x48))
 PACKET = bytes(range(0x90, 0xE8))
@@ -68,14 +70,16 @@ class DeviceUnderTest:
         salt = self.fresh_salt() if salt is None else salt
         return seeker_blocks.request_block(key, flags, address, salt, seeker_address, kind)
 
-    def public_request(self, link=0, clock=0, accepted=True, key=None, out=OUT, **parts):
+    def public_request(self, link=0, clock=0, accepted=True, key=None, out=OUT, secret=SECRET, **parts):
         """An 80-byte key-based write."""
-        block = self.request_block(key or seeker_blocks.session_key(SECRET), **parts)
-        return self.raw_request(block + bytes(64), link, clock, out, accepted=accepted)
+        block = self.request_block(key or seeker_blocks.session_key(secret), **parts)
+        return self.raw_request(block + bytes(64), link, clock, out, accepted=accepted, secret=secret)
 
-    def raw_request(self, data, link=0, clock=0, out=OUT, packet=PACKET, nonce=NONCE, accepted=True):
+    def raw_request(
+        self, data, link=0, clock=0, out=OUT, packet=PACKET, nonce=NONCE, accepted=True, secret=SECRET
+    ):
         """A key-based write of any bytes."""
-        brought = accepted, SECRET, RESPONSE_SALT, nonce
+        brought = accepted, secret, RESPONSE_SALT, nonce
         return self.send(KeyBasedWrite(link, clock, data, *brought, out, packet))
 
     def pairing_mode(self, on, clock=0):
@@ -113,10 +117,11 @@ class DeviceUnderTest:
         session = self.device.links[link]
         return session.stage.value if session else None
 
-    def bring_to(self, stage, key, link=0, clock=0):
-        """Bring the link to the stage by events that are all taken."""
+    def bring_to(self, stage, key, link=0, clock=0, secret=None):
+        """Bring the link to the stage by events that are all taken; the request of a secret has 80 bytes."""
+        by_secret = {"link": link, "clock": clock, "secret": secret}
         expected = {
-            "asked": lambda: self.request(key, link, clock),
+            "asked": lambda: self.public_request(**by_secret) if secret else self.request(key, link, clock),
             "pairing": lambda: self.pairing_started(link, clock),
             "confirming": lambda: self.confirmation_needed(link, clock),
             "proved": lambda: self.passkey_write(key, link, clock),

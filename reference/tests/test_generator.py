@@ -4,18 +4,21 @@ import unittest
 from random import Random
 from unittest import mock
 
+from ..generator import seeker_blocks
 from ..generator.coverage import Coverage, not_reached, table
 from ..generator.generate import Generator
+from ..generator.known_secrets import KEYS, SECRETS
 from ..generator.malformed_lists import MALFORMED
 from ..generator.random_names import characters, ill_formed, long_name, some_name
 from ..generator.rare_cases import RareCases
 from ..rules import control, events, key_based, model, name, name_packet, pairing
+from ..rules.account_keys import used
 from ..rules.advertising import advertisement
 from ..rules.device import Stage, drop
 from ..rules.events import lent_outputs, plain_reply
 from ..rules.model import step
 from ..rules.name import is_name
-from ..rules.stored_list import read_stored_list, stored_list
+from ..rules.stored_list import pack, read_stored_list, stored_list
 
 SIZES = {"public": 6, "ble": 6, "model": 3, "secret": 32, "nonce": 8}
 SALT_SIZES = {
@@ -56,12 +59,13 @@ class Generating(unittest.TestCase):
         other = generated(500, 6)
         self.assertNotEqual([s[1] for s in other], [s[1] for s in self.steps[:500]])
 
-    def test_all_answers_and_stages_are_reached(self):
+    def test_all_answers_stages_and_uses_are_reached(self):
         coverage = Coverage()
         for one in self.steps:
             coverage.note(*one)
-        self.assertEqual(not_reached(coverage), ([], []))
+        self.assertEqual(not_reached(coverage), ([], [], []))
         self.assertGreaterEqual(min(coverage.answers.values()), 20)
+        self.assertGreaterEqual(min(coverage.uses.counts.values()), 5)
         self.assertIn("all", table(coverage))
 
     def test_every_rare_case_is_met(self):
@@ -95,6 +99,12 @@ class Generating(unittest.TestCase):
         for make in MALFORMED:
             for _ in range(300):
                 self.assertIsNone(read_stored_list(make(random)), make.__name__)
+
+    def test_keys_of_known_secrets_are_account_keys(self):
+        self.assertEqual(len(SECRETS), 16)
+        for key, secret in SECRETS.items():
+            self.assertEqual((len(secret), seeker_blocks.session_key(secret)), (32, key))
+        self.assertEqual(read_stored_list(pack(KEYS[:5])), list(KEYS[:5]))
 
     def test_names_and_bad_names(self):
         random = Random(15)
@@ -158,6 +168,26 @@ class MistakesWeHaveSeen(unittest.TestCase):
             return after, plain_reply(event, 0) if failed_idle else reply
 
         with mock.patch.dict(model.RULES, {events.PairingEnded: taking}):
+            self.assert_found()
+
+    def test_request_does_not_use_its_key(self):
+        with mock.patch.object(key_based, "used", lambda keys, key: keys):
+            self.assert_found()
+
+    def test_80_bytes_use_a_held_key(self):
+        def using(device, event):
+            after, reply = key_based.key_based_write(device, event)
+            key = after.links[event.link].key if reply.answer == 0 else None
+            return (after.copy(keys=used(after.keys, key)) if key in after.keys else after), reply
+
+        with mock.patch.dict(model.RULES, {events.KeyBasedWrite: using}):
+            self.assert_found()
+
+    def test_key_stored_longest_ago_evicted(self):
+        def oldest_first(keys, key):
+            return keys if key in keys else (*keys, key)[-5:]
+
+        with mock.patch.object(pairing, "with_key", oldest_first):
             self.assert_found()
 
     def test_nonce_left_out_of_the_hmac(self):

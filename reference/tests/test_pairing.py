@@ -129,10 +129,10 @@ class Passkey(unittest.TestCase):
 
 class AccountKeys(unittest.TestCase):
     def write(self, keys, new):
-        """The tested after a new account key was written to a device with these keys."""
+        """The device after this key was written by the owner of the last key, whose request leaves the order."""
         tested = DeviceUnderTest(keys)
-        tested.bring_to("paired", keys[0])
-        self.assertEqual(tested.account_key_write(keys[0], new), 0)
+        tested.bring_to("paired", keys[-1])
+        self.assertEqual(tested.account_key_write(keys[-1], new), 0)
         self.assertIsNone(tested.stage())
         return tested
 
@@ -141,7 +141,7 @@ class AccountKeys(unittest.TestCase):
             tested = self.write(KEYS[:n], NEW)
             self.assertEqual(tested.device.keys, (*KEYS[:n], NEW))
 
-    def test_full_list_loses_the_oldest(self):
+    def test_full_list_loses_the_first(self):
         tested = self.write(KEYS, NEW)
         self.assertEqual(tested.device.keys, (*KEYS[1:], NEW))
         self.assertEqual(stored_list(tested.device)[4:20], KEYS[1])
@@ -149,27 +149,14 @@ class AccountKeys(unittest.TestCase):
         self.assertEqual(tested.request(NEW), 0)
         self.assertEqual(tested.reply.tried, 5)
 
-    def test_held_key_leaves_the_list(self):
-        for n in (1, 3, 5):
-            for held in KEYS[:n]:
-                tested = self.write(KEYS[:n], held)
-                self.assertEqual(tested.device.keys, tuple(KEYS[:n]))
-
-    def test_using_a_key_does_not_make_it_younger(self):
-        tested = DeviceUnderTest(KEYS)
-        tested.request(KEYS[0], link=3)
-        tested.bring_to("paired", KEYS[4])
-        tested.account_key_write(KEYS[4], NEW)
-        self.assertEqual(tested.device.keys, (*KEYS[1:], NEW))
-        self.assertEqual(tested.stage(3), "asked")
-
     def test_refused_blocks_drop_k(self):
         block = seeker_blocks.account_key_block(KEYS[0], NEW)
         wrong_first = seeker_blocks.account_key_block(KEYS[0], b"\x05" + NEW[1:])
         for wrong in (wrong_first, b"", block[:15], block + b"\x00"):
             tested = device_at("paired")
+            keys = tested.device.keys
             self.assertEqual(tested.send(AccountKeyWrite(0, 0, wrong)), 12)
-            self.assertEqual((tested.stage(), tested.device.keys), (None, tuple(KEYS)))
+            self.assertEqual((tested.stage(), tested.device.keys), (None, keys))
             self.assertEqual(tested.send(AccountKeyWrite(0, 0, block)), 9)
 
     def test_k_is_used_once(self):

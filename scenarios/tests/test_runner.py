@@ -92,6 +92,15 @@ class Comparing(Texts):
         self.assertIsNone(self.difference(f"{text}{write} -> 0"))
         self.assertIsNone(self.difference(f"{text}{write}, changed byte 16 -> 15"))
 
+    def test_the_key_of_the_second_secret_is_an_account_key(self):
+        text = "power-on  keys 0 -> 0\npairing mode on  clock 0 -> 0\n"
+        request = "key-based write  link 0, clock 0, with {}, names BLE 1, salt 000000000000000{}"
+        writes = "writes 6b30ac739f3cc47bb04335234f102e5d"
+        for number, key in enumerate(("second secret", "key 0")):
+            self.assertIsNone(self.difference(f"{text}{request.format(key, number)} -> 0, tried 1, {writes}"))
+        found = self.difference(f"{text}{request.format('shared secret', 2)} -> 0, tried 1, {writes}")
+        self.assertIn("found: 0, tried 1, writes fbead8", found.words())
+
     def test_missing_result(self):
         found = self.difference("power-on  keys 1")
         self.assertEqual(found.words(), "the text has no result; found: 0")

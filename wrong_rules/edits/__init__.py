@@ -6,10 +6,12 @@ Left out, because no events can tell them from the right rules:
 - the failure's moment is kept, or set to 0, when the count becomes 0: it is not read while the count is 0;
 - 5 is given from a count of ten on: the count is never above ten;
 - our passkey is kept when a link has left confirming, and the moment of a stage without timer: nothing reads them;
+- a use leaves the last key of the list where it is: it stands at the end already;
 - a row of the UTF-8 table gets a first byte whose characters are in another row, or are read by an earlier one (`utf8.py`).
 """
 
 from . import (
+    account_keys,
     advertising,
     aes,
     clock,
@@ -33,6 +35,7 @@ MODULES = (
     device,
     key_based,
     pairing,
+    account_keys,
     name,
     name_packet,
     utf8,

@@ -41,6 +41,7 @@ EDITS = (
     ("the marker sets the clock to 0", MARKER, marker("clock=0")),
     ("the marker empties the list", MARKER, marker("keys=()")),
     ("the marker empties the name", MARKER, marker('name=b""')),
+    ("the marker uses the first key", MARKER, marker("keys=device.keys[1:] + device.keys[:1]")),
     (
         "a refused power-on drops every K",
         REFUSED,
@@ -119,6 +120,7 @@ EDITS = (
         "tuple(keys), event.name.partition(bytes(1))[0]",
     ),
     *((f"power-on keeps {field}", TAKEN, keeps(field)) for field in FIELDS),
+    ("power-on uses the first key", "tuple(keys), event.name", "tuple(keys[1:] + keys[:1]), event.name"),
     ("power-on exchanges the addresses", "event.public, event.ble", "event.ble, event.public"),
     ("power-on reverses the model ID", "event.model, event.salt", "event.model[::-1], event.salt"),
     ("power-on reverses the filter salt", "event.model, event.salt", "event.model, event.salt[::-1]"),

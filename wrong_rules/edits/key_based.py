@@ -1,4 +1,6 @@
-"""The key-based write."""
+"""The key-based write; the use of keys by requests stands apart."""
+
+from . import uses_by_requests
 
 LOCKED = "        return device, plain_reply(event, 5)\n"
 CHECK_5 = "    if device.failures == MOST_FAILURES:\n" + LOCKED
@@ -11,7 +13,7 @@ FITS = f"    return request[0] == REQUEST and {ADDRESS}\n"
 SALT = "    return request[14:] if request[1] & (BONDING | RETROACTIVE) else request[8:]\n"
 COUNTED = "device.copy(failures=device.failures + 1, failed_at=device.clock)"
 REMEMBERED = "    spent = (device.spent + (salt_of(request),))[-MOST_SALTS:]\n"
-ACCEPTED = "    device = device.copy(spent=spent, failures=0)\n"
+ACCEPTED = "    device = device.copy(keys=keys, spent=spent, failures=0)\n"
 HELD = "    device = hold(device, event.link, Session(key, Stage.ASKED, device.clock))\n"
 RESPONSE = "encrypt(key, bytes([RESPONSE]) + device.public + event.salt)"
 BOND = "    bond = request[8:14] if request[1] & BONDING else None\n"
@@ -272,11 +274,7 @@ EDITS = (
         HELD,
         HELD.replace("hold(device,", "hold(device.copy(links=(None,) * 8),"),
     ),
-    (
-        "an accepted request makes its key the newest",
-        ACCEPTED,
-        ACCEPTED + "    device = device.copy(keys=tuple(sorted(device.keys, key=lambda k: k == key)))\n",
-    ),
+    *uses_by_requests.EDITS,
     ("the response names the BLE address", RESPONSE, RESPONSE.replace("device.public", "device.ble")),
     (
         "the response names the address that the request names",

@@ -25,6 +25,15 @@ def no_clock_step(answer):
     )
 
 
+def uses(line, if_so):
+    """A request that is refused here uses the key that fits, where this is so."""
+    return (
+        f"        if type(event) is events.KeyBasedWrite and {if_so}:\n"
+        "            used, _ = key_based.key_based_write(device, event)\n"
+        "            device = device.copy(keys=used.keys)\n" + line
+    )
+
+
 def earlier(answer, later, if_so, device="device"):
     """A later check comes before this one in a name write."""
     return (
@@ -47,6 +56,8 @@ EDITS = (
     ("an output of 16 bytes gets 13", "RESPONSE_SIZE = 16", "RESPONSE_SIZE = 17"),
     ("13 is left out in passkey writes", OUTPUT, OUTPUT.replace("events.LENDING", "events.KeyBasedWrite")),
     ("13 is left out in key-based writes", OUTPUT, OUTPUT.replace("events.LENDING", "events.PasskeyWrite")),
+    ("13 uses the key that fits", UNCHANGED, uses(UNCHANGED, "answer == 13")),
+    ("4 uses the key that fits", EARLIER, uses(EARLIER, "True")),
     ("2 comes before 1", LINK + LENGTH, LENGTH + LINK),
     ("2 comes before 1 in a name write", LINK + LENGTH + PACKET, PACKET + LINK + LENGTH),
     ("3 comes before 1", LINK + LENGTH + PACKET + PASSKEY, PASSKEY + LINK + LENGTH + PACKET),

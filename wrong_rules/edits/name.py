@@ -97,6 +97,11 @@ EDITS = (
     ("15 sets the count to 0", REFUSED, refused("device.copy(failures=0)")),
     ("a taken name is not stored", TAKEN, TAKEN.replace("device.copy(name=name)", "device")),
     ("an empty name leaves the earlier one", TAKEN, TAKEN.replace("name=name", "name=name or device.name")),
+    (
+        "a taken name uses K",
+        TAKEN,
+        TAKEN.replace("name=name", "name=name, keys=tuple(sorted(device.keys, key=lambda k: k == session.key))"),
+    ),
     ("a taken name stands behind the earlier one", TAKEN, TAKEN.replace("name=name", "name=(device.name + name)[:64]")),
     (
         "the end of a longer earlier name stays",

@@ -14,13 +14,12 @@ FAILURE = (
     "    if answer != 9 and not event.success:\n"
     "        return drop(device, event.link), plain_reply(event, 0)\n"
 )
+SUCCESS = "    return enter(device, event, Stage.PAIRED)\n"
 CONFIRMING = "    answer = stage_refusal(device, event.link, Stage.CONFIRMING)\n"
 PAIRED = "    answer = stage_refusal(device, event.link, Stage.PAIRED)\n"
 BAD_KEY = "        return refuse(device, event, 12)\n    # \"K is dropped"
 BAD_PASSKEY = "        return refuse(device, event, 12)\n    # \"bytes 1 to 3"
-TAKEN = "    device = drop(device, event.link)\n    return device.copy(keys="
-STORED = "    return (keys + (key,))[-MOST_KEYS:]\n"
-HELD = "    if key in keys:\n        return keys\n"
+TAKEN = "    device = drop(device, event.link)\n    # \"A use is"
 
 
 def keeps(answer):
@@ -32,6 +31,12 @@ def keeps(answer):
 def also(needed, other):
     """An event that needs one stage is taken in another one too."""
     return f"    if needed is Stage.{needed} and session.stage is Stage.{other}:\n        return None\n" + STAGE
+
+
+def uses_k(indented):
+    """K of the link moves to the end of the list, if it is held."""
+    moved = "tuple(sorted(device.keys, key=lambda k: k == device.links[event.link].key))"
+    return f"{indented}device = device.copy(keys={moved})\n"
 
 
 def length_first(line, held):
@@ -165,7 +170,7 @@ EDITS = (
     ("pairing failure is taken as success", FAILURE, ""),
     (
         "pairing success drops K",
-        "    return enter(device, event, Stage.PAIRED)\n",
+        SUCCESS,
         "    return drop(device, event.link), plain_reply(event, 0)\n",
     ),
     ("an account key begins with 0x05", "ACCOUNT_KEY = 0x04", "ACCOUNT_KEY = 0x05"),
@@ -185,29 +190,10 @@ EDITS = (
         TAKEN,
         TAKEN.replace("drop(device, event.link)", "device if key in device.keys else drop(device, event.link)"),
     ),
-    ("a held key is stored again", HELD, ""),
-    (
-        "a held key becomes the newest",
-        HELD,
-        "    if key in keys:\n        return tuple(k for k in keys if k != key) + (key,)\n",
-    ),
-    (
-        "a held key in a full list evicts the oldest",
-        HELD,
-        "    if key in keys:\n        return keys[1:] if len(keys) == MOST_KEYS else keys\n",
-    ),
-    (
-        "the newest key is evicted",
-        STORED,
-        "    return (keys[: MOST_KEYS - 1] + (key,)) if len(keys) == MOST_KEYS else keys + (key,)\n",
-    ),
-    ("a full list takes no key", STORED, "    return (keys + (key,))[:MOST_KEYS]\n"),
-    ("the new key goes first", STORED, "    return ((key,) + keys)[:MOST_KEYS]\n"),
-    (
-        "a full list is emptied for the new key",
-        STORED,
-        "    return (key,) if len(keys) == MOST_KEYS else keys + (key,)\n",
-    ),
+    ("an account key write uses K too", TAKEN, uses_k("    ") + TAKEN),
+    ("an equal passkey uses K", PROVED, uses_k("        ") + PROVED),
+    ("pairing success uses K", SUCCESS, uses_k("    ") + SUCCESS),
+    ("a refused account key write uses K", BAD_KEY, uses_k("        ") + BAD_KEY),
     (
         "the account key is stored as it was written",
         "with_key(device.keys, key)",

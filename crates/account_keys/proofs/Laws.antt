@@ -3,19 +3,21 @@
 use mathlib.Core.Bool.{true, false}
 use mathlib.Core.List.{List, [], _∷_, _++_}
 use mathlib.Core.Path.{_≡_, ap}
-use Prim.Native.Nat.{ℕ, _+_, _-_, _≤_, _<_}
-use native.Mathlib.Nat.{le-refl}
+use Prim.Native.Nat.{ℕ, zero, suc, _+_, _-_, _≤_, _<_}
+use native.Mathlib.Nat.{le-refl, le-of-suc-le-suc, not-suc-le-zero}
 use native.Mathlib.Omega.{arith}
 use lib.ListN.{length, take, drop, set, getD, replicate}
 use lib.Seq.{take-take, paste}
 use borrow.Author.Tests.{le-leb, lt-leb}
+use Rattle.laws.proofs.Choice.{or-right}
 use Rattle.laws.proofs.Lists.{drop-take-more, drop-take-all}
 use Rattle.laws.proofs.Padded.{take-padded, length-places, set-free-place, count-one-more, paste-one-less, count-one-less, one-less-within}
 use Rattle.laws.specs.Choice.{_or_}
 use Rattle.laws.specs.Lists.{padded, All}
-use Rattle.account_keys.specs.Keys.{Valid, Sized, owned, Kept, limit, zeroKey, held, kept, member, stored}
+use Rattle.account_keys.specs.Keys.{Valid, Sized, owned, Kept, limit, zeroKey, held, kept, member, used, stored}
 use Rattle.account_keys.specs.declared.AccountKey.{AccountKey}
 use Rattle.account_keys.specs.declared.AccountKeys.{AccountKeys}
+use Rattle.basics.proofs.Laws.{same-refl}
 use Rattle.basics.specs.Bytes.{same}
 
 -- what a read past the end of an array of keys gives
@@ -29,6 +31,13 @@ member-step l n i k h j = rw (drop-take-more l n i absentKey h j)
 
 pub member-end : (l : List AccountKey) (n i : ℕ) (k : AccountKey) → n ≤ i → member (drop i (take n l)) k ≡ false
 member-end l n i k h = rw (drop-take-all l n i h)
+
+-- the key at a place is held
+pub member-get : (l : List AccountKey) (i : ℕ) (z : AccountKey) → i < length l → member l (getD l i z) ≡ true
+member-get [] i z h = absurd (not-suc-le-zero h)
+member-get (x ∷ xs) zero z h = rw (same-refl (x .bytes))
+member-get (x ∷ xs) (suc i) z h =
+    or-right (same (x .bytes) (getD xs i z .bytes)) (member xs (getD xs i z)) (member-get xs i z (le-of-suc-le-suc h))
 
 -- the places of a kept value, as the laws of padded lists read them
 pub keys-padded : (ks : AccountKeys) → Kept ks → ks .keys ≡ padded limit zeroKey (held ks)
@@ -74,9 +83,9 @@ kept-drop ks v h =
 
 -- the three ways of an account key write
 module _ (ks : AccountKeys) (k : AccountKey) (v : Kept ks) where
-  pub stored-held : member (held ks) k ≡ true → ks ≡ kept (stored (held ks) k)
+  pub stored-held : member (held ks) k ≡ true → used (held ks) k ≡ stored (held ks) k
   unfolding stored
-  stored-held e = rw e (v .whole)
+  stored-held e = rw e
 
   pub stored-full : member (held ks) k ≡ false → limit ≤ ks .count → drop 1 (held ks) ++ (k ∷ []) ≡ stored
       (held ks) k
@@ -87,7 +96,7 @@ module _ (ks : AccountKeys) (k : AccountKey) (v : Kept ks) where
   unfolding stored
   stored-room e h = rw (e, lt-leb limit (length (held ks)) (rw (← count-held ks v) h))
 
-  -- a full list without its oldest key has room
+  -- a full list without its first key has room
   pub Kept-drop : ks .count ≤ limit → Kept (kept (drop 1 (held ks))) × (length (drop 1 (held ks)) < limit)
   Kept-drop h =
       let size : length (drop 1 (held ks)) < limit = one-less-within limit zeroKey (ks .keys) (ks .count) h

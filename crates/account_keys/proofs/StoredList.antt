@@ -71,7 +71,7 @@ unfolding keysIn
 length-keysIn b zero = refl
 length-keysIn b (suc n) = rw (length-append (keysIn b n) (keyAt b n ∷ []), length-keysIn b n) (add-one n)
 
-member-snoc : (l : List AccountKey) (k x : AccountKey) → member (l ++ (k ∷ [])) x ≡
+pub member-snoc : (l : List AccountKey) (k x : AccountKey) → member (l ++ (k ∷ [])) x ≡
     (member l x or same (k .bytes) (x .bytes))
 member-snoc [] k x = or-false (same (k .bytes) (x .bytes))
   where

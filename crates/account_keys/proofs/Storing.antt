@@ -18,6 +18,7 @@ use Rattle.account_keys.specs.declared.AccountKeys.{AccountKeys}
 use Rattle.basics.specs.Bytes.{same}
 use Rattle.account_keys.proofs.Laws.{Kept-kept, kept-valid, count-held}
 use Rattle.account_keys.proofs.StoredList.{owned-snoc}
+use Rattle.account_keys.proofs.Use.{use-within, uses-valid}
 
 -- one key more, that is not held
 push-valid : (l : List AccountKey) (k : AccountKey) → length l < limit → All Sized l → owned l ≡ true → Sized k
@@ -26,7 +27,7 @@ push-valid l k h p o s f m =
     kept-valid (l ++ (k ∷ [])) (simp length-append (omega arith)) (all-append Sized l (k ∷ []) p (s, tt))
     (owned-snoc l k ∙ rw (o, eq-eqb (getD (k .bytes) 0 0) 0x04 f, m))
 
-member-drop : (l : List AccountKey) (k : AccountKey) → member l k ≡ false → member (drop 1 l) k ≡ false
+pub member-drop : (l : List AccountKey) (k : AccountKey) → member l k ≡ false → member (drop 1 l) k ≡ false
 member-drop [] k e = e
 member-drop (x ∷ xs) k e = or-false-right (same (x .bytes) (k .bytes)) (member xs k) e
 
@@ -46,7 +47,7 @@ stores-valid ks k v s f = go (member l k) (leb limit (length l)) refl refl
     few = omega (arith, v .canonical .few, count-held ks (v .canonical))
 
     go : (m t : Bool) → member l k ≡ m → leb limit (length l) ≡ t → Valid (kept (stored l k))
-    go true t p q = rw p (kept-valid l few (v .sized) (v .known))
+    go true t p q = rw p (uses-valid ks k v)
     go false true p q =
         let room : length (drop 1 l) < limit = simp length-drop (omega (arith, few)) in
         rw (p, q)
@@ -65,6 +66,6 @@ stores-kept ks k v =
 
     go : (m t : Bool) → member (held ks) k ≡ m → leb limit (length (held ks)) ≡ t → length
         (stored (held ks) k) ≤ limit
-    go true t p q = rw p few
+    go true t p q = rw p (omega (arith, few, use-within (held ks) k))
     go false true p q = rw (p, q) (simp (length-append, length-drop) (omega (arith, few)))
     go false false p q = rw (p, q) (simp length-append (omega (arith, leb-false limit (length (held ks)) q)))

@@ -1,4 +1,4 @@
--- Document 01, "The device and its events": the owners' account keys.
+-- Document 01, "The device and its events": the owners' account keys; document 02 (ii): the order of use.
 -- Assumes nothing.
 use mathlib.Core.Bool.{Bool, true, false, not}
 use mathlib.Core.List.{List, [], _∷_, _++_}
@@ -19,7 +19,7 @@ limit = 5
 abbrev pub zeroKey : AccountKey
 zeroKey = record { bytes = replicate 16 0 }
 
--- the keys of the list, "oldest stored first"
+-- the keys of the list; document 02 (ii): "The list order becomes order of use."
 abbrev pub held : AccountKeys → List AccountKey
 held ks = take (ks .count) (ks .keys)
 
@@ -31,11 +31,20 @@ abbrev pub member : List AccountKey → AccountKey → Bool
 member [] k = false
 member (x ∷ xs) k = same (x .bytes) (k .bytes) or member xs k
 
--- "A key already held leaves the list unchanged. Else, if the list is full, the key stored longest ago is removed; the new
--- one goes last"
+-- the other keys, in their order
+abbrev pub without : List AccountKey → AccountKey → List AccountKey
+without [] k = []
+without (x ∷ xs) k = if same (x .bytes) (k .bytes) then without xs k else x ∷ without xs k
+
+-- document 02 (ii): "the key moves to the end"; one that is not held moves nothing
+unfoldable pub used : List AccountKey → AccountKey → List AccountKey
+used l k = if member l k then without l k ++ (k ∷ []) else l
+
+-- an account key write: "being written again" is a use. "Else, if the list is full", its first key, the "least recently used", is
+-- removed; "the new one goes last"
 unfoldable pub stored : List AccountKey → AccountKey → List AccountKey
 stored l k =
-    if member l k then l else
+    if member l k then used l k else
     if leb limit (length l) then drop 1 l ++ (k ∷ []) else
     l ++ (k ∷ [])
 

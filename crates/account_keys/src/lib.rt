@@ -1,4 +1,5 @@
-// The owners' account keys, and the stored list: document 01, "The device and its events" and "Stored list".
+// The owners' account keys, and the stored list: document 01, "The device and its events" and "Stored list"; document 02 (ii), the
+// order of use.
 use basics::Answer;
 use basics::Report;
 ghost use mathlib.Core.Path.{_≡_};
@@ -6,6 +7,7 @@ ghost use mathlib.Core.List.{[], _∷_, _++_};
 ghost use Prim.Native.Nat.{_+_, _*_, _<_, _≤_};
 ghost use lib.ListN.{length, drop};
 ghost use Rattle.basics.specs.Output.{reportOf, placed};
+ghost use Rattle.account_keys.specs.Keys as rule;
 ghost use Rattle.account_keys.specs.Keys.{Valid, Kept, limit, held, kept, member, stored};
 ghost use Rattle.account_keys.specs.StoredList.{keyBytes, keysIn, noReading, readingOf, reading, writing};
 
@@ -22,7 +24,7 @@ pub struct AccountKey {
     pub bytes: [u8; 16],
 }
 
-// The keys held, oldest stored first, none twice: the first `count` of `keys`; the other places are zero.
+// The keys held, least recently used first, none twice: the first `count` of `keys`; the other places are zero.
 pub struct AccountKeys {
     pub keys: [AccountKey; LIMIT],
     pub count: usize,
@@ -66,18 +68,58 @@ impl AccountKeys {
         false
     }
 
-    // The keys after an account key write: one that is held changes nothing, and a full list loses its oldest.
+    // The keys after an account key write: one that is held is used, and a new one takes the place of the first in a full list.
     pub fn store(self, key: AccountKey) -> AccountKeys
         requires { ⌜ Kept self ⌝ }
         ensures { λ r. ⌜ r ≡ kept (stored (held self) key) ⌝ }
     {
         if self.holds(key) {
-            return self;
+            return self.used(key);
         }
         let n = self.count;
         if LIMIT <= n {
-            let rest = self.without_oldest();
+            let rest = self.without_first();
             return rest.push(key);
+        }
+        self.push(key)
+    }
+
+    // A held key moved to the end; one that is not held moves nothing.
+    pub fn used(self, key: AccountKey) -> AccountKeys
+        requires { ⌜ Kept self ⌝ }
+        ensures { λ r. ⌜ r ≡ kept (rule.used (held self) key) ⌝ }
+    {
+        if !self.holds(key) {
+            return self;
+        }
+        let others = self.without(key);
+        others.push(key)
+    }
+
+    // The other keys, in their order.
+    fn without(self, key: AccountKey) -> AccountKeys
+        requires { ⌜ Kept self ⌝ }
+        ensures { λ r. ⌜ r ≡ kept (rule.without (held self) key) ⌝ }
+    {
+        let n = self.count;
+        let mut others = AccountKeys::none();
+        let mut i = 0;
+        while i < n {
+            let k = self.keys[i];
+            let more = others.push_unless(k, key);
+            others = more;
+            i += 1;
+        }
+        others
+    }
+
+    // One key more, last, unless it is the one that is left out.
+    fn push_unless(self, key: AccountKey, absent: AccountKey) -> AccountKeys
+        requires { ⌜ Kept self × (self .count < limit) ⌝ }
+        ensures { λ r. ⌜ r ≡ kept (held self ++ rule.without (key ∷ []) absent) ⌝ }
+    {
+        if basics::same(&key.bytes, &absent.bytes) {
+            return self;
         }
         self.push(key)
     }
@@ -93,8 +135,8 @@ impl AccountKeys {
         self
     }
 
-    // The key stored longest ago removed from a full list.
-    fn without_oldest(self) -> AccountKeys
+    // The first key, the least recently used, removed from a full list.
+    fn without_first(self) -> AccountKeys
         requires { ⌜ Kept self × (limit ≤ self .count) ⌝ }
         ensures { λ r. ⌜ r ≡ kept (drop 1 (held self)) ⌝ }
     {

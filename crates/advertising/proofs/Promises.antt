@@ -1,19 +1,23 @@
 -- The filter finds every key, and the order of the keys is free.
 -- Assumes nothing.
-use mathlib.Core.List.{List, _++_, foldl}
+use mathlib.Core.List.{List, [], _∷_, _++_, foldl}
 use mathlib.Core.Path.{_≡_, sym, ap, subst, _∙_}
-use Prim.Native.Nat.{ℕ, _<_, _^_}
+use Prim.Native.Nat.{ℕ, _+_, _*_, _<_, _^_}
 use native.Mathlib.Omega.{arith}
 use lib.Bits.{bitOr}
+use lib.Dec.{eqb}
 use lib.ListN.{length, getD, replicate, length-replicate}
 use lib.Seq.{getD-set-same}
 use Rattle.laws.proofs.All.{all-implies}
-use Rattle.laws.proofs.Folds.{fold-keeps, fold-all, fold-fold, fold-order, length-permuted}
+use Rattle.laws.proofs.Folds.{fold-keeps, fold-all, fold-fold, fold-order}
 use Rattle.laws.proofs.Or.{or-sets-bit, set-or-keeps-bit, set-or-comm}
+use Rattle.laws.proofs.Permuted.{length-permuted}
+use Rattle.laws.specs.Choice.{if_then_else_}
 use Rattle.laws.specs.Lists.{All}
 use Rattle.account_keys.specs.declared.AccountKey.{AccountKey}
 use Rattle.advertising.specs.Filter.{filterSize, numbers, placeOf, byteOf, bitOf, withBit, withNumber, withKey, filter}
-use Rattle.advertising.specs.Promises.{HasBit, EveryKeyIsFound, OrderIsFree}
+use Rattle.advertising.specs.Payload.{promptType, structure, serviceData, payload}
+use Rattle.advertising.specs.Promises.{HasBit, EveryKeyIsFound, OrderIsFree, PayloadHidesOrder}
 use Rattle.sha256.specs.Hash.{sha256}
 use Rattle.advertising.proofs.Laws.{place-within, length-withNumber, length-withKey, length-filter}
 
@@ -92,3 +96,12 @@ order-is-free keys other salt p =
     ap (λ (n : ℕ). foldl (withKey (filterSize n) salt) (replicate (filterSize n) 0) keys) (length-permuted p)
     ∙ fold-order (withKey (filterSize (length other)) salt) (keys-exchange (filterSize (length other)) salt) p
     (replicate (filterSize (length other)) 0)
+
+pub payload-hides-order : PayloadHidesOrder
+unfolding payload serviceData
+payload-hides-order pairing model keys other salt prompt p =
+    let n : length keys ≡ length other = length-permuted p in
+    let f : filter keys salt ≡ filter other salt = order-is-free keys other salt p in
+    λ i. structure (if pairing then model else
+    if eqb (n i) 0 then 0x00 ∷ 0x00 ∷ [] else
+    0x00 ∷ (filterSize (n i) * 16 + promptType prompt) ∷ (f i ++ (0x21 ∷ salt)))

@@ -1,5 +1,6 @@
--- What holds of the filter of every list of keys, with every salt.
+-- What holds of the filter of every list of keys, with every salt, and of the payload.
 -- Assumes nothing.
+use mathlib.Core.Bool.{Bool}
 use mathlib.Core.List.{List, _++_, List·Permᴰ}
 use mathlib.Core.Path.{_≡_}
 use Prim.Native.Nat.{ℕ, _/_, _%_, _^_}
@@ -7,6 +8,8 @@ use lib.ListN.{length, getD}
 use Rattle.laws.specs.Lists.{All}
 use Rattle.account_keys.specs.declared.AccountKey.{AccountKey}
 use Rattle.advertising.specs.Filter.{numbers, placeOf, byteOf, bitOf, filter}
+use Rattle.advertising.specs.Payload.{payload}
+use Rattle.advertising.specs.declared.Prompt.{Prompt}
 use Rattle.sha256.specs.Hash.{sha256}
 
 -- "bit M mod 8 of byte M div 8, bit 0 lowest" is one
@@ -26,3 +29,9 @@ abbrev pub OrderIsFree : Type 0
 OrderIsFree =
     (keys other : List AccountKey) (salt : List ℕ) → List·Permᴰ keys other → filter keys salt
     ≡ filter other salt
+
+-- and so none of the payload
+abbrev pub PayloadHidesOrder : Type 0
+PayloadHidesOrder =
+    (pairing : Bool) (model : List ℕ) (keys other : List AccountKey) (salt : List ℕ) (prompt : Prompt) → List·Permᴰ keys other
+    → payload pairing model keys salt prompt ≡ payload pairing model other salt prompt

@@ -2,7 +2,7 @@
 -- Assumes nothing.
 use mathlib.Core.Bool.{Bool, true, false}
 use mathlib.Core.List.{List, [], _∷_}
-use mathlib.Core.Logic.{_⊎_, inl, inr, ⊎-elim}
+use mathlib.Core.Logic.{inl, inr, ⊎-elim}
 use mathlib.Core.Path.{_≡_, refl, sym, ap, subst, _∙_}
 use Prim.Native.Nat.{ℕ}
 use native.Mathlib.Omega.{arith}
@@ -109,9 +109,7 @@ module _ (d c : Device) (v : Valid d) (w : Valid c) (e : Event) where
   )
 
   parting : Parting rules d c e → Parting calls (packed d) (packed c) e
-  parting = ⊎-elim
-      (λ p. inl (p .0, to-calls d v e (p .0) (p .1), λ s. p .2 (to-rules c w e (p .0) s)))
-      (λ p. inr (p .0, seen-number d v e ∙ p .1, seen-number c w e ∙ p .2))
+  parting p = (p .0, seen-number d v e ∙ p .1, seen-number c w e ∙ p .2)
 
 -- ---- runs
 

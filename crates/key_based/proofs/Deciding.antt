@@ -14,7 +14,7 @@ use Rattle.basics.specs.Answers.{isTaken}
 use Rattle.basics.specs.declared.Address.{Address}
 use Rattle.basics.specs.declared.Answer.{Answer}
 use Rattle.basics.specs.declared.Answer.the-variants.{LockedOut, NotInPairingMode, NoKeyFits, SaltSpent}
-use Rattle.key_based.specs.Decision.{refused, accepted, saltKnown, settled, triedKeys, unwanted, decided, respondedTo, outputsOf}
+use Rattle.key_based.specs.Decision.{refused, accepted, saltKnown, settled, triedKeys, unwanted, usesKey, decided, respondedTo, outputsOf}
 use Rattle.account_keys.specs.Keys.{held}
 use Rattle.key_based.specs.Request.{Found, found, nothing, candidates, flagged, saltAt, requestSalt, response}
 use Rattle.key_based.specs.Search.{tried, handedOver}
@@ -23,26 +23,23 @@ use Rattle.key_based.specs.declared.Context.{Context}
 use Rattle.key_based.specs.declared.Decision.{Decision}
 use Rattle.key_based.specs.declared.Element.{Element}
 use Rattle.key_based.specs.declared.Search.{Search}
-use Rattle.additional_data.specs.Packet.{sealed, packetSize}
 use Rattle.laws.specs.Choice.{if_then_else_}
-use Rattle.names.specs.Name.{textOf}
-use Rattle.names.specs.declared.Name.{Name}
 use Rattle.request_guard.specs.Guard as guards
 use Rattle.request_guard.specs.Guard.{Proper, Valid, failedAt}
 use Rattle.request_guard.specs.declared.Guard.{Guard}
 use Rattle.sessions.specs.declared.Session.{Session}
 
 -- the three ways of what the search hands over
-module _ (g : Guard) (s : Session) (t : ℕ) (r : Search) where
-  pub none-fits : r .found ≡ false → settled g s t r ≡ refused (failedAt t g) s NoKeyFits (r .tried)
+module _ (g : Guard) (s : Session) (t : ℕ) (uses : Bool) (r : Search) where
+  pub none-fits : r .found ≡ false → settled g s t uses r ≡ refused (failedAt t g) s NoKeyFits (r .tried)
   unfolding settled
   none-fits e = rw e
 
-  pub salt-spent : r .found ≡ true → saltKnown g r ≡ true → settled g s t r ≡ refused g s SaltSpent (r .tried)
+  pub salt-spent : r .found ≡ true → saltKnown g r ≡ true → settled g s t uses r ≡ refused g s SaltSpent (r .tried)
   unfolding settled
   salt-spent e f = rw (e, f)
 
-  pub request-accepted : r .found ≡ true → saltKnown g r ≡ false → settled g s t r ≡ accepted g t r
+  pub request-accepted : r .found ≡ true → saltKnown g r ≡ false → settled g s t uses r ≡ accepted g t uses r
   unfolding settled
   request-accepted e f = rw (e, f)
 
@@ -58,7 +55,7 @@ module _ (c : Context) (s : Session) (t : ℕ) (element : Element) (request : Li
   not-in-pairing-mode e f = rw (e, f)
 
   pub keys-tried : guards.locked (c .guard) ≡ false → unwanted c request ≡ false
-      → decided c s t element request ≡ settled (c .guard) s t (triedKeys c element request)
+      → decided c s t element request ≡ settled (c .guard) s t (usesKey request) (triedKeys c element request)
   unfolding decided
   keys-tried e f = rw (e, f)
 
@@ -102,40 +99,40 @@ tried-proper ble public keys request =
 
 -- ---- the ways that a decision may go, from what the search hands over
 
-pub data Way (g : Guard) (s : Session) (t : ℕ) (r : Search) : Decision → Type 0 where
-  locked : Way g s t r (refused g s LockedOut 0)
-  unasked : Way g s t r (refused g s NotInPairingMode 0)
-  no-fit : guards.locked g ≡ false → Way g s t r (refused (failedAt t g) s NoKeyFits (r .tried))
-  spent : Way g s t r (refused g s SaltSpent (r .tried))
-  taken : Proper (requestSalt (r .plain)) → Way g s t r (accepted g t r)
+pub data Way (g : Guard) (s : Session) (t : ℕ) (uses : Bool) (r : Search) : Decision → Type 0 where
+  locked : Way g s t uses r (refused g s LockedOut 0)
+  unasked : Way g s t uses r (refused g s NotInPairingMode 0)
+  no-fit : guards.locked g ≡ false → Way g s t uses r (refused (failedAt t g) s NoKeyFits (r .tried))
+  spent : Way g s t uses r (refused g s SaltSpent (r .tried))
+  taken : r .found ≡ true → Proper (requestSalt (r .plain)) → Way g s t uses r (accepted g t uses r)
 
 pub decided-way : (c : Context) (s : Session) (t : ℕ) (element : Element) (request : List ℕ)
-    → Way (c .guard) s t (triedKeys c element request) (decided c s t element request)
+    → Way (c .guard) s t (usesKey request) (triedKeys c element request) (decided c s t element request)
 unfolding decided settled
 decided-way c s t element request =
     go (guards.locked (c .guard)) (unwanted c request) (triedKeys c element request .found)
-    (saltKnown (c .guard) (triedKeys c element request)) refl
+    (saltKnown (c .guard) (triedKeys c element request)) refl refl
   where
-    go : (x y z w : Bool) → guards.locked (c .guard) ≡ x
-        → Way (c .guard) s t (triedKeys c element request)
+    go : (x y z w : Bool) → guards.locked (c .guard) ≡ x → triedKeys c element request .found ≡ z
+        → Way (c .guard) s t (usesKey request) (triedKeys c element request)
         (if x then refused (c .guard) s LockedOut 0 else
         if y then refused (c .guard) s NotInPairingMode 0 else
         if not z then refused (failedAt t (c .guard)) s NoKeyFits (triedKeys c element request .tried) else
         if w then refused (c .guard) s SaltSpent (triedKeys c element request .tried) else
-        accepted (c .guard) t (triedKeys c element request))
-    go true y z w e = locked
-    go false true z w e = unasked
-    go false false false w e = no-fit e
-    go false false true true e = spent
-    go false false true false e = taken
+        accepted (c .guard) t (usesKey request) (triedKeys c element request))
+    go true y z w e f = locked
+    go false true z w e f = unasked
+    go false false false w e f = no-fit e
+    go false false true true e f = spent
+    go false false true false e f = taken f
         (tried-proper (c .ble) (c .public) (candidates (held (c .keys)) element request) request)
 
 -- a refusal leaves both lent outputs
-module _ (c : Context) (salt nonce out packet : List ℕ) {g : Guard} {s : Session} {t : ℕ} {f : Search} where
-  pub outputs-kept : {r : Decision} → Way g s t f r → isTaken (r .answer) ≡ false
+module _ (c : Context) (salt nonce out packet : List ℕ) {g : Guard} {s : Session} {t : ℕ} {uses : Bool} {f : Search} where
+  pub outputs-kept : {r : Decision} → Way g s t uses f r → isTaken (r .answer) ≡ false
       → outputsOf c salt nonce out packet r ≡ out ∷ packet ∷ []
   outputs-kept locked h = refl
   outputs-kept unasked h = refl
   outputs-kept (no-fit e) h = refl
   outputs-kept spent h = refl
-  outputs-kept (taken p) h = absurd (true-is (sym h))
+  outputs-kept (taken f p) h = absurd (true-is (sym h))

@@ -1,12 +1,13 @@
--- Document 01, "Key-based write": answers 5 to 8, what an accepted request changes, and its response; document 02 (i): the packet
--- with the name.
+-- Document 01, "Key-based write": answers 5 to 8, what an accepted request changes, and its response; document 02: the packet with the
+-- name (i), the key that is used (ii).
 -- Assumes nothing.
 use mathlib.Core.Bool.{Bool, false, not}
 use mathlib.Core.List.{List, [], _∷_, _++_}
 use Prim.Native.Nat.{ℕ}
 use lib.ListN.{drop}
 use Rattle.laws.specs.Choice.{if_then_else_, _and_}
-use Rattle.account_keys.specs.Keys.{held}
+use Rattle.account_keys.specs.Keys.{held, kept, used}
+use Rattle.account_keys.specs.declared.AccountKeys.{AccountKeys}
 use Rattle.basics.specs.Answers.{isTaken}
 use Rattle.basics.specs.declared.Address.{Address}
 use Rattle.basics.specs.declared.Answer.{Answer}
@@ -25,17 +26,17 @@ use Rattle.request_guard.specs.declared.Guard.{Guard}
 use Rattle.sessions.specs.declared.Session.{Session}
 use Rattle.sessions.specs.declared.Stage.the-variants.{Asked}
 
--- an answer after n keys that hands out no address and sends no name; the session stays
+-- an answer after n keys that hands out no address, sends no name and uses no key; the session stays
 abbrev pub refused : Guard → Session → Answer → ℕ → Decision
-refused g s a n = record { answer = a; tried = n; bond = noBond; guard = g; session = s; sends = false }
+refused g s a n = record { answer = a; tried = n; bond = noBond; guard = g; session = s; sends = false; uses = false }
 
 -- "K replaces the link's key, stage asked"
 abbrev pub asked : List ℕ → ℕ → Session
 asked key t = record { stage = Asked; key = key; since = record { 0 = t }; passkey = 0 }
 
--- "If accepted: remember the salt, count becomes 0, K replaces the link's key, stage asked"
-abbrev pub accepted : Guard → ℕ → Search → Decision
-accepted g t r =
+-- "If accepted: remember the salt, count becomes 0, K replaces the link's key, stage asked"; `uses` says whether K is used
+abbrev pub accepted : Guard → ℕ → Bool → Search → Decision
+accepted g t uses r =
     record {
       answer = Taken;
       tried = r .tried;
@@ -43,6 +44,7 @@ accepted g t r =
       guard = acceptedWith (requestSalt (r .plain)) g;
       session = asked (r .key) t;
       sends = nameAsked (r .plain);
+      uses = uses;
     }
 
 -- 8: "fits, salt remembered"
@@ -50,11 +52,11 @@ abbrev pub saltKnown : Guard → Search → Bool
 saltKnown g r = spent (remembered (g .spent)) (requestSalt (r .plain))
 
 -- answers 7 and 8: "count plus 1, this failure's moment stored" if no candidate fits
-unfoldable pub settled : Guard → Session → ℕ → Search → Decision
-settled g s t r =
+unfoldable pub settled : Guard → Session → ℕ → Bool → Search → Decision
+settled g s t uses r =
     if not (r .found) then refused (failedAt t g) s NoKeyFits (r .tried) else
     if saltKnown g r then refused g s SaltSpent (r .tried) else
-    accepted g t r
+    accepted g t uses r
 
 -- the keys tried
 abbrev pub triedKeys : Context → Element → List ℕ → Search
@@ -64,12 +66,20 @@ triedKeys c element request = searched (c .ble) (c .public) (held (c .keys)) ele
 abbrev pub unwanted : Context → List ℕ → Bool
 unwanted c request = hasPublicKey request and not (c .pairing)
 
+-- document 02 (ii): a use is "being the key of an accepted 16-byte request"; one of 80 bytes uses no key of the list
+abbrev pub usesKey : List ℕ → Bool
+usesKey request = not (hasPublicKey request)
+
 -- a request at moment t on a link with session s: answers 5 to 8 in this order
 unfoldable pub decided : Context → Session → ℕ → Element → List ℕ → Decision
 decided c s t element request =
     if locked (c .guard) then refused (c .guard) s LockedOut 0 else
     if unwanted c request then refused (c .guard) s NotInPairingMode 0 else
-    settled (c .guard) s t (triedKeys c element request)
+    settled (c .guard) s t (usesKey request) (triedKeys c element request)
+
+-- the account keys after a request under K: "the key moves to the end", if it is used
+abbrev pub usedIn : Bool → List ℕ → AccountKeys → AccountKeys
+usedIn uses key ks = if uses then kept (used (held ks) (record { bytes = key })) else ks
 
 -- "and the response is .. encrypted with K": it stands in front of the lent output, whose other bytes stay
 abbrev pub respondedTo : Answer → List ℕ → Address → List ℕ → List ℕ → List ℕ

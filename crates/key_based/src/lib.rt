@@ -1,5 +1,6 @@
 // Document 01, "Key-based write", over the block of source document 004, table 1: the keys that are tried, the answer that a request
-// gets, what it changes, its response, and the packet with the name (document 02).
+// gets, what it changes, its response, and by document 02 the packet with the name and the use of a key.
+use account_keys::AccountKey;
 use account_keys::AccountKeys;
 use basics::Address;
 use basics::Answer;
@@ -54,7 +55,8 @@ pub struct Context {
     pub name: Name,
 }
 
-// What a request comes to: the answer, all that it hands out, the guard and the session afterwards, and whether the name is sent.
+// What a request comes to: the answer, all that it hands out, the guard and the session afterwards, whether the name is sent, and
+// whether the session's key is used.
 pub struct Decision {
     pub answer: Answer,
     pub tried: u8,
@@ -62,6 +64,7 @@ pub struct Decision {
     pub guard: Guard,
     pub session: Session,
     pub sends: bool,
+    pub uses: bool,
 }
 
 // Whether a request has one of the two lengths.
@@ -97,6 +100,17 @@ pub fn decide(
     respond(answer, key, address, salt, out);
     send_name(decision.sends, key, name, nonce, packet);
     decision
+}
+
+// The account keys after a request: its key moves to the end, if it is used.
+pub fn used_in(uses: bool, key: [u8; 16], keys: AccountKeys) -> AccountKeys
+    requires { ⌜ Kept keys ⌝ }
+    ensures { λ r. ⌜ r ≡ rule.usedIn uses key keys ⌝ }
+{
+    if !uses {
+        return keys;
+    }
+    keys.used(AccountKey { bytes: key })
 }
 
 // The length of the packet with the name; 0 where none is sent.
@@ -154,13 +168,13 @@ fn decided(
     let public = context.public;
     let keys = context.keys;
     let search = try_keys(ble, public, keys, element, request);
-    settled(guard, session, clock, search)
+    settled(guard, session, clock, request.len() != 80, search)
 }
 
 // No fit is a failure, a spent salt is refused, and else the request is accepted.
-fn settled(guard: Guard, session: Session, clock: Moment, search: Search) -> Decision
+fn settled(guard: Guard, session: Session, clock: Moment, uses: bool, search: Search) -> Decision
     requires { ⌜ guards.Valid guard × (guard .failures .count < 10) ⌝ }
-    ensures { λ r. ⌜ r ≡ rule.settled guard session (clock .0) search ⌝ }
+    ensures { λ r. ⌜ r ≡ rule.settled guard session (clock .0) uses search ⌝ }
 {
     if !search.found {
         return refused(
@@ -183,10 +197,11 @@ fn settled(guard: Guard, session: Session, clock: Moment, search: Search) -> Dec
         guard: guard.accepted(salt),
         session: asked(key, clock),
         sends: name_asked(plain),
+        uses: uses,
     }
 }
 
-// An answer after `tried` keys that hands out no address and sends no name.
+// An answer after `tried` keys that hands out no address, sends no name and uses no key.
 fn refused(guard: Guard, session: Session, answer: Answer, tried: u8) -> Decision
     ensures { λ r. ⌜ r ≡ rule.refused guard session answer tried ⌝ }
 {
@@ -197,6 +212,7 @@ fn refused(guard: Guard, session: Session, answer: Answer, tried: u8) -> Decisio
         guard: guard,
         session: session,
         sends: false,
+        uses: false,
     }
 }
 

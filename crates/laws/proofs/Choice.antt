@@ -24,6 +24,18 @@ pub if-same {ℓ} : {A : Type ℓ} (b : Bool) {x y : A} → (b ≡ true → x �
 if-same true e = e refl
 if-same false e = refl
 
+pub or-left : (a b : Bool) → a ≡ true → (a or b) ≡ true
+or-left true b e = refl
+or-left false b e = absurd (true-is e)
+
+pub or-right : (a b : Bool) → b ≡ true → (a or b) ≡ true
+or-right true b e = refl
+or-right false b e = e
+
+pub or-false-left : (a b : Bool) → (a or b) ≡ false → a ≡ false
+or-false-left true b e = e
+or-false-left false b e = refl
+
 pub or-false-right : (a b : Bool) → (a or b) ≡ false → b ≡ false
 or-false-right true b e = absurd (true-is (sym e))
 or-false-right false b e = e
@@ -32,6 +44,14 @@ pub and-false : (a : Bool) → (a and false) ≡ false
 and-false true = refl
 and-false false = refl
 
+pub and-true-left : (a : Bool) → (a and true) ≡ false → a ≡ false
+and-true-left true e = e
+and-true-left false e = refl
+
+pub both-fail : (a b c : Bool) → (a and c) ≡ false → (b and c) ≡ false → ((a or b) and c) ≡ false
+both-fail true b c e f = e
+both-fail false b c e f = f
+
 pub and-left : (a b : Bool) → (a and b) ≡ true → a ≡ true
 and-left true b e = refl
 and-left false b e = e
@@ -39,6 +59,11 @@ and-left false b e = e
 pub and-right : (a b : Bool) → (a and b) ≡ true → b ≡ true
 and-right true b e = e
 and-right false b e = absurd (true-is e)
+
+-- a test that fails whenever a further one does
+pub fails-with : (a : Bool) {b : Bool} → (a ≡ true → b ≡ true) → b ≡ false → a ≡ false
+fails-with false h e = refl
+fails-with true h e = absurd (true-is (sym e ∙ h refl))
 
 -- the same of tests that pass
 pub passes-left : (a b : Bool) → T (a and b) → T a

@@ -2,7 +2,7 @@
 -- Assumes nothing.
 use mathlib.Core.List.{List, [], _∷_, foldl, foldl-append, List·Permᴰ, List·Permᴰ·nil, List·Permᴰ·cons, List·Permᴰ·swap, List·Permᴰ·trans}
 use mathlib.Core.Path.{_≡_, refl, ap, ap₂, _∙_}
-use Prim.Native.Nat.{ℕ, suc, _+_, _<_}
+use Prim.Native.Nat.{ℕ, _+_, _<_}
 use native.Mathlib.Numerals.{add-one}
 use lib.ListN.{length, take, getD}
 use lib.Seq.{take-suc}
@@ -48,9 +48,3 @@ module _ {A B : Type 0} (f : B → A → B) where
     fold-order (List·Permᴰ·swap {a = x} {b = y} {l = l} e g) b =
         ap (λ (c : B). foldl f c l) (exchange b x y ∙ ap₂ (λ (v w : A). f (f b v) w) g e)
     fold-order (List·Permᴰ·trans p q) b = fold-order p b ∙ fold-order q b
-
-pub length-permuted : {A : Type 0} {l m : List A} → List·Permᴰ l m → length l ≡ length m
-length-permuted List·Permᴰ·nil = refl
-length-permuted (List·Permᴰ·cons e p) = ap suc (length-permuted p)
-length-permuted (List·Permᴰ·swap e g) = refl
-length-permuted (List·Permᴰ·trans p q) = length-permuted p ∙ length-permuted q

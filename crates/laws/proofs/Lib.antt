@@ -11,6 +11,7 @@ pub mod Loops
 pub mod Or
 pub mod Padded
 pub mod Parts
+pub mod Permuted
 pub mod Rewritten
 pub mod Several
 pub mod Table

@@ -1,7 +1,7 @@
 -- Laws of lists beside those of lib.Seq, with indices as code writes them (`i + 1`).
 -- Assumes nothing.
 use mathlib.Core.List.{List, [], _∷_, _++_, map, map-append, append-nil}
-use mathlib.Core.Path.{_≡_, refl, sym, ap, _∙_}
+use mathlib.Core.Path.{_≡_, refl, sym, _∙_}
 use Prim.Native.Nat.{ℕ, zero, suc, _+_, _-_, _≤_, _<_}
 use native.Mathlib.Nat.{le-refl, sub-zero, zero-sub, suc-sub-suc, le-of-suc-le-suc, not-suc-le-zero}
 use native.Mathlib.Numerals.{add-one}
@@ -103,3 +103,9 @@ pub map-take-all : {A : Type 0} (f : A → A) (l : List A) (n : ℕ) → length 
     ≡ map f l
 map-take-all f l n e =
     rw (take-all n l (omega arith), drop-of-length-le l {i = n} (omega arith), append-nil (map f l))
+
+-- within the list it does not matter what stands past its end
+pub getD-within {ℓ} : {A : Type ℓ} (l : List A) (i : ℕ) (y z : A) → i < length l → getD l i y ≡ getD l i z
+getD-within [] i y z h = absurd (not-suc-le-zero h)
+getD-within (x ∷ xs) zero y z h = refl
+getD-within (x ∷ xs) (suc i) y z h = getD-within xs i y z (le-of-suc-le-suc h)

@@ -9,7 +9,7 @@ use lib.Dec.{eqb, ltb}
 use lib.ListN.{length, getD}
 use borrow.Author.Tests.{eqb-true, ltb-true, not-false}
 use Rattle.laws.proofs.Choice.{true-is, if-holds, or-false-right}
-use Rattle.laws.specs.Choice.{if_then_else_}
+use Rattle.laws.specs.Choice.{if_then_else_, _and_}
 use Rattle.account_keys.specs.Keys.{Sized}
 use Rattle.account_keys.specs.declared.AccountKey.{AccountKey}
 use Rattle.aes128.proofs.Sizes.{length-invCipher}
@@ -22,7 +22,7 @@ use Rattle.additional_data.specs.Packet.{opened}
 use Rattle.names.specs.Name as names
 use Rattle.names.specs.declared.NameReading.{NameReading}
 use Rattle.pairing.proofs.Laws as laws
-use Rattle.pairing.specs.Pairing.{PairingEvent, PairingStarted, ConfirmationNeeded, PasskeyWrite, PairingEnded, AccountKeyWrite, NameWrite, isNameWrite, answered, dropped, readName, nameWrite, inStage, refusedCapability, begun, confirming, badBlock, passkeyIn, comparedPasskey, openedPasskey, openedAccountKey, pairingFailed, pairingStarted, confirmationNeeded, passkeyWrite, pairingEnded, accountKeyWrite, sessionStep, lent, leaves}
+use Rattle.pairing.specs.Pairing.{PairingEvent, PairingStarted, ConfirmationNeeded, PasskeyWrite, PairingEnded, AccountKeyWrite, NameWrite, isAccountKeyWrite, isNameWrite, answered, dropped, readName, nameWrite, inStage, refusedCapability, begun, confirming, badBlock, passkeyIn, comparedPasskey, openedPasskey, keyStored, openedAccountKey, pairingFailed, pairingStarted, confirmationNeeded, passkeyWrite, pairingEnded, accountKeyWrite, sessionStep, lent, leaves}
 use Rattle.pairing.specs.declared.SessionOutcome.{SessionOutcome}
 use Rattle.sessions.specs.Sessions.{Canonical, idle, isStage, stageNumber, becomes}
 use Rattle.sessions.specs.declared.Session.{Session}
@@ -212,44 +212,70 @@ step-lawful (AccountKeyWrite block) t s =
     lawful-stage Paired (openedAccountKey block) (account-key-lawful block s)
 step-lawful (NameWrite packet) t s = name-write-lawful packet s
 
--- ---- a name is changed by a name write alone
+-- ---- a key is stored by an account key write alone, and a name taken by a name write, with answer 0
 
-record KeepsName (a : SessionOutcome) : Type 0 where
-  kept : a .renames ≡ false
+pub record OwnParts (e : PairingEvent) (a : SessionOutcome) : Type 0 where
+  pub key : a .stores ≡ true → (isAccountKeyWrite e and isTaken (a .answer)) ≡ true
+  pub name : a .renames ≡ true → (isNameWrite e and isTaken (a .answer)) ≡ true
 
-keeps-if : (b : Bool) {x y : SessionOutcome} → KeepsName x → KeepsName y → KeepsName (if b then x else y)
-keeps-if true p q = p
-keeps-if false p q = q
+module _ {e : PairingEvent} where
+  own-if : (b : Bool) {x y : SessionOutcome} → OwnParts e x → OwnParts e y → OwnParts e (if b then x else y)
+  own-if b p q = if-holds (OwnParts e) b p (λ _. q)
 
-keeps-stage : (needed : Stage) (rule : Session → SessionOutcome) (s : Session) → KeepsName (rule s)
-    → KeepsName (inStage needed rule s)
-unfolding inStage
-keeps-stage needed rule s p =
-    keeps-if (isStage (s .stage) Idle) (record { kept = refl })
-    (keeps-if (not (isStage (s .stage) needed)) (record { kept = refl }) p)
+  -- an outcome that brings neither
+  neither : {a : SessionOutcome} → a .stores ≡ false → a .renames ≡ false → OwnParts e a
+  neither p q = record { key = λ h. absurd (true-is (sym p ∙ h)); name = λ h. absurd (true-is (sym q ∙ h)) }
 
-others-keep-name : (e : PairingEvent) (t : ℕ) (s : Session) → isNameWrite e ≡ false → KeepsName (sessionStep e t s)
-unfolding pairingStarted confirmationNeeded passkeyWrite pairingEnded accountKeyWrite comparedPasskey
-others-keep-name (PairingStarted capability) t s h =
-    keeps-stage Asked (begun t capability) s
-    (keeps-if (refusedCapability capability) (record { kept = refl }) (record { kept = refl }))
-others-keep-name (ConfirmationNeeded passkey) t s h =
-    keeps-stage Pairing (λ u. answered Taken (confirming t passkey u)) s (record { kept = refl })
-others-keep-name (PasskeyWrite block salt out) t s h =
-    keeps-stage Confirming (openedPasskey t block) s
-    (keeps-if (badBlock 0x02 (s .key) block) (record { kept = refl })
-    (keeps-if (eqb (passkeyIn (invCipher (s .key) block)) (s .passkey)) (record { kept = refl }) (record { kept = refl })))
-others-keep-name (PairingEnded true) t s h =
-    keeps-stage Proved (λ u. answered Taken (becomes Paired t u)) s (record { kept = refl })
-others-keep-name (PairingEnded false) t s h =
-    keeps-if (isStage (s .stage) Idle) (record { kept = refl }) (record { kept = refl })
-others-keep-name (AccountKeyWrite block) t s h =
-    keeps-stage Paired (openedAccountKey block) s
-    (keeps-if (badBlock 0x04 (s .key) block) (record { kept = refl }) (record { kept = refl }))
-others-keep-name (NameWrite packet) t s h = absurd (true-is (sym h))
+  own-stage : (needed : Stage) (rule : Session → SessionOutcome) (s : Session) → OwnParts e (rule s)
+      → OwnParts e (inStage needed rule s)
+  unfolding inStage
+  own-stage needed rule s p =
+      own-if (isStage (s .stage) Idle) (neither refl refl)
+      (own-if (not (isStage (s .stage) needed)) (neither refl refl) p)
 
-pub renames-not : (e : PairingEvent) (t : ℕ) (s : Session) → isNameWrite e ≡ false → sessionStep e t s .renames ≡ false
-renames-not e t s h = others-keep-name e t s h .kept
+pub own-parts : (e : PairingEvent) (t : ℕ) (s : Session) → OwnParts e (sessionStep e t s)
+unfolding pairingStarted confirmationNeeded passkeyWrite pairingEnded accountKeyWrite comparedPasskey nameWrite
+own-parts (PairingStarted capability) t s =
+    own-stage Asked (begun t capability) s (own-if (refusedCapability capability) (neither refl refl) (neither refl refl))
+own-parts (ConfirmationNeeded passkey) t s =
+    own-stage Pairing (λ u. answered Taken (confirming t passkey u)) s (neither refl refl)
+own-parts (PasskeyWrite block salt out) t s =
+    own-stage Confirming (openedPasskey t block) s
+    (own-if (badBlock 0x02 (s .key) block) (neither refl refl)
+    (own-if (eqb (passkeyIn (invCipher (s .key) block)) (s .passkey)) (neither refl refl) (neither refl refl)))
+own-parts (PairingEnded true) t s =
+    own-stage Proved (λ u. answered Taken (becomes Paired t u)) s (neither refl refl)
+own-parts (PairingEnded false) t s =
+    own-if (isStage (s .stage) Idle) (neither refl refl) (neither refl refl)
+own-parts (AccountKeyWrite block) t s =
+    own-stage Paired (openedAccountKey block) s
+    (own-if (badBlock 0x04 (s .key) block) (neither refl refl)
+    (record { key = λ _. refl; name = λ h. absurd (true-is h) }))
+own-parts (NameWrite packet) t s =
+    own-if (isStage (s .stage) Idle) (neither refl refl)
+    (own-if (isStage (s .stage) Paired) (neither refl refl)
+    (own-if (opened (s .key) packet .good) (record { key = λ h. absurd (true-is h); name = λ _. refl }) (neither refl refl)))
+
+-- an account key write that gets 0 stores the key in its block
+pub account-key-taken : (block : List ℕ) (s : Session) → isTaken (accountKeyWrite block s .answer) ≡ true
+    → accountKeyWrite block s ≡ keyStored (invCipher (s .key) block)
+unfolding accountKeyWrite inStage
+account-key-taken block s =
+    go (isStage (s .stage) Idle) (isStage (s .stage) Paired) (badBlock 0x04 (s .key) block)
+  where
+    stored : SessionOutcome
+    stored = keyStored (invCipher (s .key) block)
+
+    go : (x y z : Bool)
+        → isTaken ((if x then answered LinkIdle s else
+        if not y then dropped WrongStage else if z then dropped BadBlock else stored) .answer)
+        ≡ true
+        → (if x then answered LinkIdle s else if not y then dropped WrongStage else if z then dropped BadBlock else stored)
+        ≡ stored
+    go true y z h = absurd (true-is h)
+    go false false z h = absurd (true-is h)
+    go false true true h = absurd (true-is h)
+    go false true false h = refl
 
 -- on an idle link every event gets 9, and changes nothing
 module _ (t : ℕ) (s : Session) (h : s .stage ≡ Idle) where

@@ -9,6 +9,7 @@ use lib.ListN.{length, drop, getD, replicate}
 use Rattle.laws.specs.BigEndian.{bytes, number3}
 use Rattle.laws.specs.Choice.{if_then_else_, _or_}
 use Rattle.account_keys.specs.Keys.{held, kept, stored, zeroKey}
+use Rattle.account_keys.specs.declared.AccountKey.{AccountKey}
 use Rattle.account_keys.specs.declared.AccountKeys.{AccountKeys}
 use Rattle.additional_data.specs.Packet.{opened}
 use Rattle.aes128.specs.Cipher.{cipher, invCipher}
@@ -35,6 +36,14 @@ pub data PairingEvent : Type 0 where
   PairingEnded : (success : Bool) → PairingEvent
   AccountKeyWrite : (block : List ℕ) → PairingEvent
   NameWrite : (packet : List ℕ) → PairingEvent
+
+abbrev pub isAccountKeyWrite : PairingEvent → Bool
+isAccountKeyWrite (PairingStarted capability) = false
+isAccountKeyWrite (ConfirmationNeeded passkey) = false
+isAccountKeyWrite (PasskeyWrite block salt out) = false
+isAccountKeyWrite (PairingEnded success) = false
+isAccountKeyWrite (AccountKeyWrite block) = true
+isAccountKeyWrite (NameWrite packet) = false
 
 abbrev pub isNameWrite : PairingEvent → Bool
 isNameWrite (PairingStarted capability) = false
@@ -221,6 +230,15 @@ leaves (PasskeyWrite block salt out) t s = passkeyOutput salt out s (passkeyWrit
 leaves (PairingEnded success) t s = []
 leaves (AccountKeyWrite block) t s = []
 leaves (NameWrite packet) t s = []
+
+-- the account key in the block that is written on a link with session s; zero in every other event
+abbrev pub writtenKey : PairingEvent → Session → AccountKey
+writtenKey (PairingStarted capability) s = zeroKey
+writtenKey (ConfirmationNeeded passkey) s = zeroKey
+writtenKey (PasskeyWrite block salt out) s = zeroKey
+writtenKey (PairingEnded success) s = zeroKey
+writtenKey (AccountKeyWrite block) s = record { bytes = invCipher (s .key) block }
+writtenKey (NameWrite packet) s = zeroKey
 
 -- the account keys after the event
 abbrev pub storedIn : SessionOutcome → AccountKeys → AccountKeys

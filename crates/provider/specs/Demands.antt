@@ -5,4 +5,5 @@ pub mod LinksApart
 pub mod Names
 pub mod Refusals
 pub mod Samples
+pub mod Use
 pub mod Validity

@@ -221,17 +221,20 @@ impl Device {
 
     // The device after a request that was decided so.
     fn requested(mut self, link: Link, decision: Decision) -> Outcome
-        requires { ⌜ (link .0 < linkCount) × names.Valid (self .name) ⌝ }
+        requires { ⌜ (link .0 < linkCount) × Kept (self .keys) × names.Valid (self .name) ⌝ }
         ensures { λ r. ⌜ r ≡ rule.requested self (link .0) decision ⌝ }
     {
         let sessions = self.sessions;
+        let keys = self.keys;
         let session = decision.session;
+        let key = session.key;
         let guard = decision.guard;
         let answer = decision.answer;
         let bond = decision.bond;
         let name = self.name;
         let packet = key_based::packet_length(decision.sends, name);
         self.sessions = sessions.with(link, session);
+        self.keys = key_based::used_in(decision.uses, key, keys);
         self.guard = guard;
         Outcome {
             next: self,

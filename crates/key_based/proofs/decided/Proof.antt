@@ -1,6 +1,5 @@
 -- Answers 5 and 6, and then the keys tried.
 use mathlib.Core.Path.{sym, ap, _∙_}
-use borrow.Author.Tests.{not-true, not-false}
 use Rattle.key_based.proofs.Deciding.{locked-out, not-in-pairing-mode, keys-tried, not-locked}
 use Rattle.key_based.specs.Decision as rule
 use borrow.Author.Needs.{needs}
@@ -44,7 +43,8 @@ returns-3 c =
     let at-locked = at-if1 .before in
     let start = at-locked .before .before .before in
     c .settled .ensures ∙ ap
-    (rule.settled (start .args .context .guard) (start .args .session) (start .args .clock .0))
+    (rule.settled (start .args .context .guard) (start .args .session) (start .args .clock .0)
+    (rule.usesKey (start .args .request .now)))
     (c .before .try-keys .ensures) ∙ sym
     (keys-tried (start .args .context) (start .args .session) (start .args .clock .0) (start .args .element)
     (start .args .request .now) (sym (at-locked .locked .ensures) ∙ at-if1 .if1 .left)

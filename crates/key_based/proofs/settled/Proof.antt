@@ -17,7 +17,7 @@ returns c =
     c .refused .ensures ∙ ap
     (λ (g : Guard). rule.refused g (start .args .session) NoKeyFits (start .args .search .tried))
     (c .before .failed .ensures) ∙ sym
-    (none-fits (start .args .guard) (start .args .session) (start .args .clock .0) (start .args .search)
+    (none-fits (start .args .guard) (start .args .session) (start .args .clock .0) (start .args .uses) (start .args .search)
     (not-true (start .args .search .found) (at-if1 .if1 .taken)))
 
 returns-2 : tie.Need-returns-2
@@ -27,7 +27,7 @@ returns-2 c =
     let at-if1 = at-request-salt .before .before in
     let start = at-if1 .before .before in
     c .refused2 .ensures ∙ sym
-    (salt-spent (start .args .guard) (start .args .session) (start .args .clock .0) (start .args .search)
+    (salt-spent (start .args .guard) (start .args .session) (start .args .clock .0) (start .args .uses) (start .args .search)
     (not-false (start .args .search .found) (at-if1 .if1 .left))
     (ap (guards.spent (guards.remembered (start .args .guard .spent)))
     (sym (at-request-salt .request-salt .ensures)) ∙ sym (at-is-spent .is-spent .ensures) ∙
@@ -51,7 +51,7 @@ returns-3 c =
       at-request-salt .request-salt .ensures,
     )
     (sym (request-accepted (start .args .guard) (start .args .session) (start .args .clock .0)
-    (start .args .search) (not-false (start .args .search .found) (at-if1 .if1 .left))
+    (start .args .uses) (start .args .search) (not-false (start .args .search .found) (at-if1 .if1 .left))
     (ap (guards.spent (guards.remembered (start .args .guard .spent)))
     (sym (at-request-salt .request-salt .ensures)) ∙ sym (at-is-spent .is-spent .ensures) ∙ at-if2 .if2 .left)))
 

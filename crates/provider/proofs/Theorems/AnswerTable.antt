@@ -15,7 +15,7 @@ use Rattle.account_keys.specs.declared.ListForm.the-variants.{WellFormed, Malfo
 use Rattle.basics.specs.Answers.{answerNumber, isTaken}
 use Rattle.basics.specs.declared.Answer.{Answer}
 use Rattle.basics.specs.declared.Answer.the-variants.{Taken, UnknownLink, WrongLength, PasskeyTooLarge, ClockWentBack, OutputTooShort, ListMalformed, LinkIdle, WrongStage, CapabilityRefused, BadBlock, NameRefused, LockedOut, NotInPairingMode, NoKeyFits, SaltSpent}
-use Rattle.key_based.specs.Decision.{refused, accepted, saltKnown, settled, triedKeys, unwanted, decided}
+use Rattle.key_based.specs.Decision.{refused, accepted, saltKnown, settled, triedKeys, unwanted, usesKey, decided}
 use Rattle.key_based.specs.Request.{sized}
 use Rattle.key_based.specs.declared.Context.{Context}
 use Rattle.key_based.specs.declared.Element.{Element}
@@ -119,7 +119,7 @@ told-request c s t element request =
         if y then refused (c .guard) s NotInPairingMode 0 else
         if not z then refused (failedAt t (c .guard)) s NoKeyFits (triedKeys c element request .tried) else
         if w then refused (c .guard) s SaltSpent (triedKeys c element request .tried) else
-        accepted (c .guard) t (triedKeys c element request)) .answer)
+        accepted (c .guard) t (usesKey request) (triedKeys c element request)) .answer)
         ≡ (if x then 5 else if y then 6 else if not z then 7 else if w then 8 else 0)
     go true y z w = refl
     go false true z w = refl

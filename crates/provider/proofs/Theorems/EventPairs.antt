@@ -1,42 +1,38 @@
 -- One event in the two runs of demand 3: the second does the same, or gets 9 on a link whose K it lost.
 -- Assumes nothing.
 use mathlib.Core.Bool.{Bool, true, false, not}
-use mathlib.Core.List.{List, [], _∷_}
+use mathlib.Core.List.{List, []}
 use mathlib.Core.Logic.{_⊎_, inl, inr}
-use mathlib.Core.Path.{_≡_, refl, sym, ap, subst, _∙_}
+use mathlib.Core.Path.{_≡_, refl, sym, ap, subst}
 use Prim.Native.Nat.{ℕ}
-use native.Mathlib.Omega.{arith}
 use lib.Dec.{ltb}
 use borrow.Author.Tests.{eqb-true, eqb-false}
-use Rattle.laws.proofs.Choice.{true-is}
-use Rattle.laws.specs.Choice.{if_then_else_}
-use Rattle.account_keys.proofs.Laws.{stored-held}
+use Rattle.laws.proofs.Choice.{and-left, and-right, or-left, or-right}
+use Rattle.laws.specs.Choice.{if_then_else_, _or_}
 use Rattle.account_keys.proofs.ReadBack.{reads-valid}
 use Rattle.account_keys.specs.Keys as keys
-use Rattle.account_keys.specs.Keys.{held, kept, member, stored}
 use Rattle.account_keys.specs.StoredList.{reading}
-use Rattle.account_keys.specs.declared.AccountKey.{AccountKey}
 use Rattle.account_keys.specs.declared.AccountKeys.{AccountKeys}
 use Rattle.account_keys.specs.declared.ListForm.{ListForm}
 use Rattle.account_keys.specs.declared.ListForm.the-variants.{WellFormed, Malformed}
 use Rattle.basics.specs.Answers.{answerNumber, isTaken}
 use Rattle.basics.specs.declared.Answer.{Answer}
 use Rattle.basics.specs.declared.Answer.the-variants.{Taken, UnknownLink, ClockWentBack, ListMalformed, LinkIdle, LockedOut, NotInPairingMode, NoKeyFits, SaltSpent}
-use Rattle.key_based.specs.Decision.{refused, accepted, saltKnown, settled, triedKeys, unwanted, decided, outputsOf}
+use Rattle.key_based.specs.Decision.{refused, accepted, saltKnown, settled, triedKeys, unwanted, usesKey, decided, outputsOf}
 use Rattle.key_based.specs.declared.Decision.{Decision}
 use Rattle.key_based.specs.declared.Element.{Element}
 use Rattle.key_based.specs.declared.Search.{Search}
 use Rattle.names.specs.Name.{isName, nameOf}
 use Rattle.names.specs.declared.Name.{Name}
-use Rattle.pairing.proofs.SessionSteps.{Lawful, step-lawful, renames-not, idle-step, refusal-leaves}
+use Rattle.pairing.proofs.SessionSteps.{OwnParts, own-parts, step-lawful, idle-step, refusal-leaves}
 use Rattle.sessions.proofs.Laws.{stage-idle}
 use Rattle.pairing.specs.Pairing as pairing
-use Rattle.pairing.specs.Pairing.{PairingEvent, isNameWrite, answered, sessionStep, storedIn}
+use Rattle.pairing.specs.Pairing.{PairingEvent, isAccountKeyWrite, isNameWrite, answered, sessionStep, storedIn, renamedIn}
 use Rattle.pairing.specs.declared.SessionOutcome.{SessionOutcome}
 use Rattle.provider.proofs.Theorems.SessionPairs.{SameOrIdle, same, second-idle, EachSameOrIdle, each-replicate, each-at, each-set, each-expired}
 use Rattle.provider.proofs.Theorems.ValidParts.{no-keys-valid}
-use Rattle.provider.proofs.Theorems.Validity.{stored-valid}
-use Rattle.provider.specs.Demands.Gap.{writesName}
+use Rattle.provider.proofs.Theorems.Validity.{stored-valid, used-valid}
+use Rattle.provider.specs.Demands.Gap.{writesKey, writesName}
 use Rattle.provider.specs.Rules.Control.{started, named, byForm, powerOn}
 use Rattle.provider.specs.Rules.Device.{Effect, replyOf, answers, takes, dropAll, withSessions, withKeys, withName, withLink, clockStep, inTime, onKnownLink}
 use Rattle.provider.specs.Rules.Event.{DeviceEvent, PairingMode, AddressRotated, FactoryReset, LinkEvent, LinkUp, LinkDown, KeyBasedWrite, OnSession, Event, Overflow, PowerOn, OnDevice, OnLink, lent, early, contextOf, requested, applied, onDevice, onLink, step}
@@ -60,21 +56,16 @@ pub record Related (d c : Device) : Type 0 where
   pub same : c ≡ withSessions d (c .sessions)
   pub before : Before d (c .sessions)
 
--- from keys ks on, a key was stored that was not held
-pub record Stored (ks : AccountKeys) (d : Device) : Type 0 where
-  pub key : AccountKey
-  pub new : member (held ks) key ≡ false
-  pub first : d .keys ≡ kept (stored (held ks) key)
-  pub valid : keys.Valid (d .keys)
-
 -- the number of the answer
 abbrev number : Effect → ℕ
 number x = answerNumber (x .gives .reply .answer)
 
--- event e parts the runs: the first stores a key, or takes a name; the second still holds the keys ks
-pub data Parted (ks : AccountKeys) (e : Event) (x y : Effect) : Type 0 where
-  by-key : Stored ks (x .gives .next) → y .gives .next .keys ≡ ks → Parted ks e x y
-  by-name : writesName e ≡ true → number x ≡ 0 → number y ≡ 9 → y .gives .next .keys ≡ ks → Parted ks e x y
+-- event e parts the runs: it writes a key or a name, which the first takes; the second still holds the keys ks
+pub record Parted (ks : AccountKeys) (e : Event) (x y : Effect) : Type 0 where
+  pub writes : (writesKey e or writesName e) ≡ true
+  pub first : number x ≡ 0
+  pub second : number y ≡ 9
+  pub keys : y .gives .next .keys ≡ ks
 
 -- the same reply and outputs in both runs
 abbrev pub SameSeen : Effect → Effect → Type 0
@@ -206,10 +197,13 @@ module _ (l t : ℕ) (request : List ℕ) (element : Element) (salt nonce out pa
   }
 
   -- an accepted request gives both the same session
-  accepted-pair : (g : Guard) (f : Search) → BothDecide (accepted g t f) (accepted g t f)
-  accepted-pair g f = record {
+  accepted-pair : (g : Guard) (uses : Bool) (f : Search) → BothDecide (accepted g t uses f) (accepted g t uses f)
+  accepted-pair g uses f = record {
     seen = inl (refl, refl);
-    next = inl (record { same = refl; before = before-set l same (record { links = b .links; valid = b .valid }) });
+    next = inl (record {
+      same = refl;
+      before = before-set l same (record { links = b .links; valid = used-valid uses (f .key) (d .keys) (b .valid) });
+    });
   }
 
 request-pairs : (l t : ℕ) (request : List ℕ) (element : Element) (salt nonce out packet : List ℕ)
@@ -229,13 +223,13 @@ request-pairs l t request element salt nonce out packet = record {
         (triedKeys (contextOf d) element request .tried) else
         if w then refused (d .guard) (sessionAt (d .sessions) l) SaltSpent
         (triedKeys (contextOf d) element request .tried) else
-        accepted (d .guard) t (triedKeys (contextOf d) element request))
+        accepted (d .guard) t (usesKey request) (triedKeys (contextOf d) element request))
         (if x then refused (d .guard) (sessionAt ss l) LockedOut 0 else
         if y then refused (d .guard) (sessionAt ss l) NotInPairingMode 0 else
         if not z then refused (failedAt t (d .guard)) (sessionAt ss l) NoKeyFits
         (triedKeys (contextOf d) element request .tried) else
         if w then refused (d .guard) (sessionAt ss l) SaltSpent (triedKeys (contextOf d) element request .tried) else
-        accepted (d .guard) t (triedKeys (contextOf d) element request))
+        accepted (d .guard) t (usesKey request) (triedKeys (contextOf d) element request))
     go d ss b true y z w = refused-pair l t request element salt nonce out packet d ss b (d .guard) LockedOut 0 refl
     go d ss b false true z w = refused-pair l t request element salt nonce out packet d ss b (d .guard) NotInPairingMode 0 refl
     go d ss b false false false w = refused-pair l t request element salt nonce out packet d ss b (failedAt t (d .guard)) NoKeyFits
@@ -243,7 +237,7 @@ request-pairs l t request element salt nonce out packet = record {
     go d ss b false false true true = refused-pair l t request element salt nonce out packet d ss b (d .guard) SaltSpent
         (triedKeys (contextOf d) element request .tried) refl
     go d ss b false false true false = accepted-pair l t request element salt nonce out packet d ss b (d .guard)
-        (triedKeys (contextOf d) element request)
+        (usesKey request) (triedKeys (contextOf d) element request)
 
 -- ---- pairing, passkey and account key events, and the name write
 
@@ -251,10 +245,9 @@ request-pairs l t request element salt nonce out packet = record {
 abbrev appliedEffect : ℕ → Device → SessionOutcome → List (List ℕ) → Effect
 appliedEffect l d a outs = record { gives = applied d l a; leaves = outs }
 
--- the first run alone is served with outcome a: a key that it held changes nothing, another one or a name parts the runs
-module _ (e : PairingEvent) (l t : ℕ) {s : Session} (u : Session) (a : SessionOutcome) (p : Lawful s a)
-    (n : isNameWrite e ≡ false → a .renames ≡ false) (d : Device) (ss : Sessions) (b : Before d ss) (idle-second : u .stage ≡ Idle)
-    (outs : List (List ℕ)) where
+-- the first run alone is served with outcome a: a key or a name that it takes parts the runs
+module _ (e : PairingEvent) (l t : ℕ) (u : Session) (a : SessionOutcome) (own : OwnParts e a) (d : Device) (ss : Sessions)
+    (b : Before d ss) (idle-second : u .stage ≡ Idle) (outs : List (List ℕ)) where
   abbrev first : Effect
   first = appliedEffect l d a outs
 
@@ -266,43 +259,34 @@ module _ (e : PairingEvent) (l t : ℕ) {s : Session} (u : Session) (a : Session
       Related (first .gives .next) (second .gives .next)
       ⊎ Parted (d .keys) (OnLink l t (OnSession e)) first second
 
-  keys-after : keys.Valid (storedIn a (d .keys))
-  keys-after = stored-valid a (d .keys) (b .valid) (p .storable)
+  parted : (isAccountKeyWrite e or isNameWrite e) ≡ true → isTaken (a .answer) ≡ true → Next
+  parted w h = inr (record { writes = w; first = eqb-true _ 0 h; second = refl; keys = refl })
 
-  -- a name is taken by a name write, with answer 0
-  name-write : a .renames ≡ true → isNameWrite e ≡ true
-  name-write h = go (isNameWrite e) refl
-    where
-      go : (x : Bool) → isNameWrite e ≡ x → isNameWrite e ≡ true
-      go true q = q
-      go false q = absurd (true-is (sym (n q) ∙ h))
-
-  name-taken : a .renames ≡ true → number first ≡ 0
-  name-taken h = go (isTaken (a .answer)) refl
-    where
-      go : (x : Bool) → isTaken (a .answer) ≡ x → answerNumber (a .answer) ≡ 0
-      go true q = eqb-true _ 0 q
-      go false q = absurd (true-is (sym (ap (λ (o : SessionOutcome). o .renames) (p .refusal q)) ∙ h))
-
-  related : storedIn a (d .keys) ≡ d .keys → a .renames ≡ false → Next
-  related q h = inl (record {
-    same = λ i. withName (withKeys (withLink (withSessions d ss) l u) (sym q i)) (sym (same-name (a .renames) h) i);
-    before = record { links = each-set (b .links) l (second-idle idle-second); valid = keys-after };
+  related : a .stores ≡ false → a .renames ≡ false → Next
+  related p q = inl (record {
+    same = λ i. withName (withKeys (withLink (withSessions d ss) l u) (sym same-keys i)) (sym same-name i);
+    before = record { links = each-set (b .links) l (second-idle idle-second); valid = rw p (b .valid) };
   })
     where
-      same-name : (x : Bool) → x ≡ false → (if x then a .name else d .name) ≡ d .name
-      same-name false q = refl
-      same-name true q = absurd (true-is (sym q))
+      same-keys : storedIn a (d .keys) ≡ d .keys
+      same-keys = rw p
+
+      same-name : renamedIn a (d .name) ≡ d .name
+      same-name = rw q
 
   next-alone : Next
-  next-alone = go (a .renames) (a .stores) (member (held (d .keys)) (a .key)) refl refl refl
+  next-alone = go (a .stores) (a .renames) refl refl
     where
-      go : (x y z : Bool) → a .renames ≡ x → a .stores ≡ y → member (held (d .keys)) (a .key) ≡ z → Next
-      go true y z h q m = inr (by-name (name-write h) (name-taken h) refl refl)
-      go false false z h q m = related (rw q) h
-      go false true true h q m = related (rw q (sym (stored-held (d .keys) (a .key) (b .valid .canonical) m))) h
-      go false true false h q m =
-          inr (by-key (record { key = a .key; new = m; first = rw q; valid = keys-after }) refl)
+      k : Bool
+      k = isAccountKeyWrite e
+
+      n : Bool
+      n = isNameWrite e
+
+      go : (x y : Bool) → a .stores ≡ x → a .renames ≡ y → Next
+      go true y p q = let h = own .key p in parted (or-left k n (and-left k _ h)) (and-right k _ h)
+      go false true p q = let h = own .name q in parted (or-right k n (and-left n _ h)) (and-right n _ h)
+      go false false p q = related p q
 
 session-pairs : (e : PairingEvent) (l t : ℕ) → Pairs (OnLink l t (OnSession e)) (λ d. onLink (OnSession e) d l t)
 session-pairs e l t = record { paired = λ d ss b. go d ss b (each-at (b .links) l) }
@@ -314,7 +298,7 @@ session-pairs e l t = record { paired = λ d ss b. go d ss b (each-at (b .links)
         (appliedEffect l (withSessions d ss) (answered LinkIdle u) (pairing.lent e))
     lost d ss s u b h = record {
       seen = by (isStage (s .stage) Idle) refl;
-      next = next-alone e l t u (sessionStep e t s) (step-lawful e t s) (renames-not e t s) d ss b h (pairing.leaves e t s);
+      next = next-alone e l t u (sessionStep e t s) (own-parts e t s) d ss b h (pairing.leaves e t s);
     }
       where
         by : (x : Bool) → isStage (s .stage) Idle ≡ x

@@ -4,9 +4,8 @@ use mathlib.Core.List.{List}
 use mathlib.Core.Logic.{inl, inr, ⊎-elim}
 use mathlib.Core.Path.{_≡_, refl, sym, ap, subst, _∙_}
 use Prim.Native.Nat.{ℕ}
-use lib.Dec.{T}
-use Rattle.account_keys.proofs.Laws.{held-kept}
-use Rattle.account_keys.specs.Keys.{held, member, stored}
+use Rattle.account_keys.specs.Keys as keys
+use Rattle.account_keys.specs.Keys.{held}
 use Rattle.account_keys.specs.StoredList.{writing}
 use Rattle.account_keys.specs.declared.AccountKey.{AccountKey}
 use Rattle.account_keys.specs.declared.AccountKeys.{AccountKeys}
@@ -14,12 +13,13 @@ use Rattle.basics.proofs.Answers.{unlike}
 use Rattle.basics.specs.declared.Answer.the-variants.{Taken, ListMalformed}
 use Rattle.names.specs.Name.{nameOf, textOf}
 use Rattle.provider.proofs.Theorems.AfterMarker.{after-markers}
-use Rattle.provider.proofs.Theorems.EventPairs.{Related, Stored, Parted, by-key, by-name, Paired, before-started, step-pairs}
+use Rattle.provider.proofs.Theorems.EventPairs.{Related, Parted, Paired, before-started, step-pairs}
 use Rattle.provider.proofs.Theorems.SessionPairs.{each-idle}
-use Rattle.provider.proofs.Theorems.Stores.{member-stored, lists, stores-none}
+use Rattle.provider.proofs.Theorems.Stores.{stores-none}
+use Rattle.provider.proofs.Theorems.Validity.{starts-valid}
 use Rattle.provider.proofs.Theorems.Ways as event
 use Rattle.provider.proofs.Theorems.Ways.{way}
-use Rattle.provider.specs.Demands.Gap.{Marked, done, same, added, rules, Lists, Stores, Compared, Parting, TwoRuns, GapOnlyTakesAway}
+use Rattle.provider.specs.Demands.Gap.{Marked, done, same, added, rules, Lists, Stores, Compared, TwoRuns, GapOnlyTakesAway}
 use Rattle.provider.specs.Demands.Validity.{written}
 use Rattle.provider.specs.Rules.Device.{Effect}
 use Rattle.provider.specs.Rules.Event.{Event, Overflow, PowerOn, step, next, answerOf}
@@ -49,27 +49,13 @@ stores-same d c e r q k s = (
   λ h. s .1 (subst (λ (b : List ℕ). Lists b k) (sym (same-written r)) h),
 )
 
--- where the runs part, the second stores no key, and the first stores one or takes a name
-module _ (d c : Device) (e : Event) (r : Related d c) where
-  parted-keys : Parted (d .keys) e (step d e) (step c e) → next c e .keys ≡ d .keys
-  parted-keys (by-key s q) = q
-  parted-keys (by-name w a n q) = q
-
-  parted-none : Parted (d .keys) e (step d e) (step c e) → (k : AccountKey) → Stores rules c e k → ⊥
-  parted-none p k = stores-none c e k (parted-keys p ∙ sym (same-keys r))
-
-  parted-stores : (p : Stored (d .keys) (next d e)) → Stores rules d e (p .key)
-  parted-stores p = (
-    lists (next d e .keys) (p .key) (p .valid)
-        ∙ ap (λ (ks : AccountKeys). member (held ks) (p .key)) (p .first)
-        ∙ ap (λ (l : List AccountKey). member l (p .key)) (held-kept (stored (held (d .keys)) (p .key)))
-        ∙ member-stored (held (d .keys)) (p .key),
-    λ h. subst T (sym h ∙ lists (d .keys) (p .key) (r .before .valid) ∙ p .new) tt,
-  )
-
-  parting : Parted (d .keys) e (step d e) (step c e) → Parting rules d c e
-  parting (by-key s q) = inl (s .key, parted-stores s, parted-none (by-key s q) (s .key))
-  parting (by-name w a n q) = inr (w, a, n)
+-- where the runs part, the second stores no key
+parted-none : (d c : Device) (e : Event) → Related d c → Parted (d .keys) e (step d e) (step c e) → (k : AccountKey)
+    → Stores rules c e k → ⊥
+parted-none d c e r p k =
+    let same : next c e .keys ≡ c .keys = p .keys ∙ sym (same-keys r) in
+    let valid : keys.Valid (c .keys) = rw (same-keys r) (r .before .valid) in
+    stores-none c e k valid (rw same valid) (λ m. rw (← same) m)
 
 -- every event, from related devices on
 paired : (d c : Device) (e : Event) → Related d c → Paired (d .keys) e (step d e) (step c e)
@@ -98,7 +84,7 @@ two-runs (same e m) d c r =
     let a : Paired (d .keys) e (step d e) (step c e) = paired d c e r in (
       compared d c e r a,
       ⊎-elim (λ q. inr (sym (same-written q), sym (same-named q), two-runs m (next d e) (next c e) q))
-          (λ p. inl (parting d c e r p))
+          (λ p. inl (p .writes, p .first, p .second))
           (a .next),
     )
 
@@ -116,4 +102,5 @@ started-related d stored name start = go (way d (PowerOn stored name start))
 pub gap-only-takes-away : GapOnlyTakesAway
 gap-only-takes-away d stored name start taken es fs m =
     let s = next d (PowerOn stored name start) in
-    (two-runs m s s (started-related d stored name start taken), after-markers s es, after-markers s fs)
+    let v = starts-valid d stored name start taken in
+    (two-runs m s s (started-related d stored name start taken), after-markers s es v, after-markers s fs v)

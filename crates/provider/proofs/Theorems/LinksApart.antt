@@ -1,6 +1,6 @@
 -- An event on one link leaves the other links' keys and stages as they are, timers and answer 4 apart.
 -- Assumes nothing.
-use mathlib.Core.Bool.{false}
+use mathlib.Core.Bool.{Bool, false}
 use mathlib.Core.Path.{_≡_, refl, sym, _∙_}
 use Prim.Native.Nat.{ℕ, _<_}
 use lib.ListN.{replicate}
@@ -45,13 +45,13 @@ module _ (d : Device) {l m : ℕ} (t : ℕ) (h : m ≡ l → ⊥) where
   stepped s = other-link (expired t (d .sessions)) m l s h ∙ expired-at t (d .sessions) l
 
   -- answers 0 and 5 to 8
-  decision-apart : {g : Guard} {u : Session} {f : Search} {r : Decision} → Way g u t f r
+  decision-apart : {g : Guard} {u : Session} {uses : Bool} {f : Search} {r : Decision} → Way g u t uses f r
       → sessionAt (requested (clockStep t d) m r .next .sessions) l ≡ otherSession (r .answer) t (sessionAt (d .sessions) l)
   decision-apart locked = stepped _
   decision-apart unasked = stepped _
   decision-apart (no-fit e) = stepped _
   decision-apart spent = stepped _
-  decision-apart (taken p) = stepped _
+  decision-apart (taken f p) = stepped _
 
   -- answers 0, 9 to 12 and 15
   late : {a : Answer} → OnSessions a → (s : Session) → atClock t s ≡ otherSession a t s

@@ -3,20 +3,21 @@
 use mathlib.Core.Bool.{Bool, true, false}
 use mathlib.Core.List.{List, [], _++_}
 use mathlib.Core.Path.{_≡_, refl, sym, ap, _∙_}
-use Prim.Native.Nat.{ℕ, _+_, _-_, _≤_, _<_}
+use Prim.Native.Nat.{ℕ, _+_, _≤_, _<_}
 use native.Mathlib.Omega.{arith}
 use lib.ListN.{length, take, drop}
 use lib.Seq.{take-at, getD-set-same}
 use borrow.Author.Tests.{le-leb}
-use Rattle.laws.proofs.Choice.{true-is}
+use Rattle.laws.proofs.Choice.{true-is, fails-with}
 use Rattle.laws.specs.Choice.{if_then_else_, _and_}
 use Rattle.additional_data.proofs.Promises.{sealed-length, opening-undoes-sealing, name-short}
 use Rattle.additional_data.specs.Packet.{sealed, packetSize, packetSized}
+use Rattle.account_keys.specs.declared.AccountKeys.{AccountKeys}
 use Rattle.basics.proofs.Answers.{unlike}
 use Rattle.basics.specs.Answers.{isTaken}
 use Rattle.basics.specs.declared.Answer.the-variants.{Taken, UnknownLink, ClockWentBack, LockedOut, NotInPairingMode, NoKeyFits, SaltSpent}
 use Rattle.key_based.proofs.Deciding.{Way, locked, unasked, no-fit, spent, taken, decided-way}
-use Rattle.key_based.specs.Decision.{asked, accepted, packetTo, packetLength}
+use Rattle.key_based.specs.Decision.{asked, accepted, usedIn, packetTo, packetLength}
 use Rattle.key_based.specs.Request.{nameAsked}
 use Rattle.key_based.specs.declared.Decision.{Decision}
 use Rattle.key_based.specs.declared.Search.{Search}
@@ -24,19 +25,21 @@ use Rattle.names.proofs.ValidNames.{valid-is-name}
 use Rattle.names.specs.Name.{nameOf, textOf}
 use Rattle.names.specs.declared.Name.{Name}
 use Rattle.pairing.proofs.Laws as pairing
-use Rattle.pairing.proofs.SessionSteps.{step-lawful, renames-not}
-use Rattle.pairing.specs.Pairing.{PairingEvent, NameWrite, isNameWrite, nameTaken, sessionStep}
+use Rattle.pairing.proofs.SessionSteps.{own-parts}
+use Rattle.pairing.specs.Pairing.{NameWrite, nameTaken, sessionStep}
 use Rattle.pairing.specs.declared.SessionOutcome.{SessionOutcome}
 use Rattle.provider.proofs.Checks.{known-link, clock-on}
 use Rattle.provider.proofs.Theorems.Refusals.{same-link}
-use Rattle.provider.proofs.Theorems.ValidParts.{clockStep-valid}
+use Rattle.provider.proofs.Theorems.PartKept.{part-kept}
+use Rattle.provider.proofs.Theorems.ValidParts.{keys-valid, clockStep-valid}
+use Rattle.provider.proofs.Theorems.Validity.{used-valid}
 use Rattle.provider.proofs.Theorems.Ways as event
 use Rattle.provider.proofs.Theorems.Ways.{way}
 use Rattle.provider.specs.Demands.Gap.{writesName}
 use Rattle.provider.specs.Demands.Names.{setsName, NameKept, nameWritten, sessionThen, PacketReads, sentBy, PacketComesBack}
 use Rattle.provider.specs.Demands.Validity.{Valid}
-use Rattle.provider.specs.Rules.Device.{Effect, takes, withName, withGuard, withLink, clockStep}
-use Rattle.provider.specs.Rules.Event.{DeviceEvent, PairingMode, AddressRotated, FactoryReset, LinkEvent, LinkUp, LinkDown, KeyBasedWrite, OnSession, Event, OnDevice, OnLink, contextOf, requested, applied, nameSize, onDevice, onLink, step}
+use Rattle.provider.specs.Rules.Device.{Effect, takes, withKeys, withName, withGuard, withLink, clockStep}
+use Rattle.provider.specs.Rules.Event.{DeviceEvent, PairingMode, AddressRotated, FactoryReset, LinkEvent, LinkUp, LinkDown, KeyBasedWrite, OnSession, OnDevice, OnLink, contextOf, requested, applied, nameSize, onDevice, onLink, step}
 use Rattle.provider.specs.declared.Device.{Device}
 use Rattle.request_guard.specs.declared.Guard.{Guard}
 use Rattle.sessions.proofs.Laws.{atClock-in-time, expired-at}
@@ -46,46 +49,25 @@ use Rattle.sessions.specs.declared.Stage.the-variants.{Idle, Paired}
 
 -- ---- what changes the name
 
--- an event on a session takes a name only if it is a name write that gets 0
-renamed-not : (e : PairingEvent) (t : ℕ) (s : Session) → (isNameWrite e and isTaken (sessionStep e t s .answer)) ≡ false
-    → sessionStep e t s .renames ≡ false
-renamed-not e t s h = go (isNameWrite e) (isTaken (sessionStep e t s .answer)) refl refl h
-  where
-    go : (x y : Bool) → isNameWrite e ≡ x → isTaken (sessionStep e t s .answer) ≡ y → (x and y) ≡ false
-        → sessionStep e t s .renames ≡ false
-    go false y p q h = renames-not e t s p
-    go true false p q h = ap (λ (a : SessionOutcome). a .renames) (step-lawful e t s .refusal q)
-    go true true p q h = absurd (true-is (sym h))
-
 name-kept-on-link : (e : LinkEvent) (c : Device) (l t : ℕ)
     → (writesName (OnLink l t e) and isTaken (onLink e c l t .gives .reply .answer)) ≡ false
     → onLink e c l t .gives .next .name ≡ c .name
 name-kept-on-link LinkUp c l t h = refl
 name-kept-on-link LinkDown c l t h = refl
 name-kept-on-link (KeyBasedWrite request element salt nonce out packet) c l t h = refl
-name-kept-on-link (OnSession e) c l t h = rw (renamed-not e t (sessionAt (c .sessions) l) h)
+name-kept-on-link (OnSession e) c l t h = rw (fails-with (sessionStep e t (sessionAt (c .sessions) l) .renames)
+    (own-parts e t (sessionAt (c .sessions) l) .name) h)
+
+name-kept-on-device : (e : DeviceEvent) (c : Device) (t : ℕ) → setsName (OnDevice t e) ≡ false → onDevice e c .name ≡ c .name
+name-kept-on-device (PairingMode on) c t h = refl
+name-kept-on-device (AddressRotated ble salt) c t h = refl
+name-kept-on-device FactoryReset c t h = absurd (true-is (sym h))
 
 pub name-kept : NameKept
 unfolding clockStep
-name-kept d e = go (way d e)
-  where
-    device : (e : DeviceEvent) (t : ℕ) → (setsName (OnDevice t e) and true) ≡ false
-        → onDevice e (clockStep t d) .name ≡ d .name
-    device (PairingMode on) t h = refl
-    device (AddressRotated ble salt) t h = refl
-    device FactoryReset t h = absurd (true-is (sym h))
-
-    go : {e : Event} {x : Effect} → event.Way d e x → (setsName e and isTaken (x .gives .reply .answer)) ≡ false
-        → x .gives .next .name ≡ d .name
-    go event.marker h = refl
-    go (event.powered-on stored name start f n) h = absurd (true-is (sym h))
-    go (event.malformed stored name start) h = refl
-    go (event.device-late t e) h = refl
-    go (event.device-changed t e) h = device e t h
-    go (event.unknown-link l t e) h = refl
-    go (event.refused-early l t e q) h = refl
-    go (event.link-late l t e) h = refl
-    go (event.on-link l t e k) h = name-kept-on-link e (clockStep t d) l t h
+name-kept =
+    part-kept (λ d. d .name) setsName (λ d. refl) (λ d t. refl) (λ stored name start. refl) name-kept-on-device
+    name-kept-on-link
 
 -- ---- the packet of a name under a link's K
 
@@ -159,24 +141,28 @@ module _ (c : Device) (l t u : ℕ) (known : l < linkCount) (v : Valid c) (nonce
       (nameWritten l u (take (packetLength (r .sends) (c .name)) (packetTo (r .sends) (r .session .key) (c .name) nonce packet)))
       ≡ takes (clockStep u (requested c l r .next))
 
-  decision-back : {g : Guard} {s : Session} {f : Search} {r : Decision} → Way g s t f r → r .answer ≡ Taken
+  decision-back : {g : Guard} {s : Session} {uses : Bool} {f : Search} {r : Decision} → Way g s t uses f r → r .answer ≡ Taken
       → 0 < packetLength (r .sends) (c .name) → Back r
   decision-back locked e n = absurd (unlike LockedOut Taken tt e)
   decision-back unasked e n = absurd (unlike NotInPairingMode Taken tt e)
   decision-back (no-fit h) e n = absurd (unlike NoKeyFits Taken tt e)
   decision-back spent e n = absurd (unlike SaltSpent Taken tt e)
-  decision-back {g} {s} {f} (taken p) e n = go (nameAsked (f .plain)) n
+  decision-back {g} {s} {uses} {f} (taken h p) e n = go (nameAsked (f .plain)) n
     where
+      ks : AccountKeys
+      ks = usedIn uses (f .key) (c .keys)
+
       go : (b : Bool) → 0 < (if b then packetSize (c .name) else 0)
-          → step (requested c l (accepted g t f) .next) (nameWritten l u
+          → step (requested c l (accepted g t uses f) .next) (nameWritten l u
           (take (if b then packetSize (c .name) else 0)
           (if b then sealed (f .key) nonce (textOf (c .name)) ++ drop (packetSize (c .name)) packet else packet)))
-          ≡ takes (clockStep u (requested c l (accepted g t f) .next))
+          ≡ takes (clockStep u (requested c l (accepted g t uses f) .next))
       go false n = absurd (omega (arith, n))
       go true n =
-          ap (λ (p : List ℕ). step (requested c l (accepted g t f) .next) (nameWritten l u p))
+          ap (λ (p : List ℕ). step (requested c l (accepted g t uses f) .next) (nameWritten l u p))
           (sent-packet (f .key) nonce (textOf (c .name)) (drop (packetSize (c .name)) packet) eight)
-          ∙ comes-back c l t u known v (accepted g t f .guard) (f .key) nonce eight on soon
+          ∙ comes-back (withKeys c ks) l t u known (keys-valid v ks (used-valid uses (f .key) (c .keys) (v .keys)))
+          (accepted g t uses f .guard) (f .key) nonce eight on soon
 
 pub packet-comes-back : PacketComesBack
 unfolding clockStep

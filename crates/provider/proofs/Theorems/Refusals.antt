@@ -14,7 +14,7 @@ use Rattle.basics.specs.Answers.{isTaken, isOneOf}
 use Rattle.basics.specs.declared.Answer.{Answer}
 use Rattle.basics.specs.declared.Answer.the-variants.{Taken, WrongLength, PasskeyTooLarge, OutputTooShort}
 use Rattle.key_based.proofs.Deciding.{Way, locked, unasked, no-fit, spent, taken, decided-way, outputs-kept}
-use Rattle.key_based.specs.Decision.{triedKeys, decided}
+use Rattle.key_based.specs.Decision.{triedKeys, usesKey, decided}
 use Rattle.key_based.specs.Request.{sized}
 use Rattle.key_based.specs.declared.Decision.{Decision}
 use Rattle.key_based.specs.declared.Element.{Element}
@@ -103,14 +103,14 @@ module _ (d : Device) (l t : ℕ) (request : List ℕ) (element : Element) where
     tried : r .tried ≡ toldTried (r .answer) (triedKeys (contextOf (clockStep t d)) element request .tried)
 
   decides : {r : Decision}
-      → Way (clockStep t d .guard) (sessionAt (clockStep t d .sessions) l) t
+      → Way (clockStep t d .guard) (sessionAt (clockStep t d .sessions) l) t (usesKey request)
       (triedKeys (contextOf (clockStep t d)) element request) r
       → Decides r
   decides locked = record { next = λ _. same-link (clockStep t d) l; reply = λ _. refl; tried = refl }
   decides unasked = record { next = λ _. same-link (clockStep t d) l; reply = λ _. refl; tried = refl }
   decides (no-fit h) = record { next = λ _. same-link _ l; reply = λ _. refl; tried = refl }
   decides spent = record { next = λ _. same-link (clockStep t d) l; reply = λ _. refl; tried = refl }
-  decides (taken p) = record {
+  decides (taken h p) = record {
     next = λ e. absurd (true-is (sym e));
     reply = λ e. absurd (true-is (sym e));
     tried = refl;

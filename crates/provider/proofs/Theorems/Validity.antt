@@ -1,12 +1,14 @@
 -- Power-on and every event leave a valid device, and its stored list reads back.
 -- Assumes nothing.
 use mathlib.Core.Bool.{Bool, true, false}
+use mathlib.Core.List.{List}
 use mathlib.Core.Path.{_≡_, refl}
 use Prim.Native.Nat.{ℕ, _<_}
 use Rattle.laws.proofs.All.{all-get}
 use Rattle.laws.specs.Choice.{if_then_else_}
 use Rattle.account_keys.proofs.ReadBack.{reads-back, reads-valid}
 use Rattle.account_keys.proofs.Storing.{stores-valid}
+use Rattle.account_keys.proofs.Use.{uses-valid}
 use Rattle.account_keys.specs.Keys as keys
 use Rattle.account_keys.specs.Keys.{held, kept, stored}
 use Rattle.account_keys.specs.StoredList.{reading}
@@ -14,7 +16,7 @@ use Rattle.account_keys.specs.declared.AccountKeys.{AccountKeys}
 use Rattle.basics.proofs.Answers.{unlike}
 use Rattle.basics.specs.declared.Answer.the-variants.{Taken, ListMalformed}
 use Rattle.key_based.proofs.Deciding.{Way, locked, unasked, no-fit, spent, taken, decided-way}
-use Rattle.key_based.specs.Decision.{asked}
+use Rattle.key_based.specs.Decision.{asked, usedIn}
 use Rattle.key_based.specs.declared.Decision.{Decision}
 use Rattle.key_based.specs.declared.Search.{Search}
 use Rattle.pairing.proofs.SessionSteps.{Lawful, Storable, in-a-stage, step-lawful}
@@ -46,6 +48,11 @@ stored-valid a ks v p = go (a .stores) refl
     go true e = stores-valid ks (a .key) v (p e .0) (p e .1)
     go false e = v
 
+-- the key of an accepted request, which is used or not
+pub used-valid : (uses : Bool) (key : List ℕ) (ks : AccountKeys) → keys.Valid ks → keys.Valid (usedIn uses key ks)
+used-valid true key ks v = uses-valid ks (record { bytes = key }) v
+used-valid false key ks v = v
+
 -- and a name that may be taken
 renamed-valid : (a : SessionOutcome) (n : Name) → names.Valid n → (a .renames ≡ true → names.Valid (a .name))
     → names.Valid (renamedIn a n)
@@ -59,15 +66,16 @@ module _ {d : Device} (v : Valid d) (l : ℕ) (k : l < linkCount) where
   session-canonical : Canonical (sessionAt (d .sessions) l)
   session-canonical = all-get Canonical (d .sessions .links) (v .sessions) l absentSession (rw (v .links) k)
 
-  decision-valid : {t : ℕ} {f : Search} {r : Decision} → Way (d .guard) (sessionAt (d .sessions) l) t f r
+  decision-valid : {t : ℕ} {uses : Bool} {f : Search} {r : Decision} → Way (d .guard) (sessionAt (d .sessions) l) t uses f r
       → Valid (requested d l r .next)
   decision-valid locked = link-valid (guard-valid v _ (v .guard)) l _ session-canonical
   decision-valid unasked = link-valid (guard-valid v _ (v .guard)) l _ session-canonical
   decision-valid {t} (no-fit h) =
       link-valid (guard-valid v _ (failed-valid (d .guard) (v .guard) t h)) l _ session-canonical
   decision-valid spent = link-valid (guard-valid v _ (v .guard)) l _ session-canonical
-  decision-valid {t} {f} (taken p) =
-      link-valid (guard-valid v _ (accepted-valid (d .guard) (v .guard) _ p)) l _ (in-a-stage (asked (f .key) t) refl)
+  decision-valid {t} {uses} {f} (taken h p) =
+      link-valid (guard-valid (keys-valid v _ (used-valid uses (f .key) (d .keys) (v .keys))) _
+      (accepted-valid (d .guard) (v .guard) _ p)) l _ (in-a-stage (asked (f .key) t) refl)
 
   applied-valid : {a : SessionOutcome} → Lawful (sessionAt (d .sessions) l) a → Valid (applied d l a .next)
   applied-valid {a} p =

@@ -6,14 +6,14 @@ use mathlib.Core.Logic.{_⊎_}
 use mathlib.Core.Path.{_≡_}
 use Prim.Native.Nat.{ℕ}
 use lib.Dec.{eqb}
-use Rattle.laws.specs.Choice.{_and_}
+use Rattle.laws.specs.Choice.{_and_, _or_}
 use Rattle.account_keys.specs.Keys.{held, member}
 use Rattle.account_keys.specs.StoredList.{reading}
 use Rattle.account_keys.specs.declared.AccountKey.{AccountKey}
 use Rattle.basics.specs.Answers.{answerNumber}
 use Rattle.basics.specs.declared.Answer.the-variants.{Taken}
 use Rattle.names.specs.Name.{textOf}
-use Rattle.pairing.specs.Pairing.{PairingStarted, ConfirmationNeeded, PasskeyWrite, PairingEnded, AccountKeyWrite, NameWrite, isNameWrite}
+use Rattle.pairing.specs.Pairing.{PairingEvent, PairingStarted, ConfirmationNeeded, PasskeyWrite, PairingEnded, AccountKeyWrite, NameWrite, isAccountKeyWrite, isNameWrite}
 use Rattle.provider.specs.Demands.Validity.{written}
 use Rattle.provider.specs.Rules.Event.{Event, LinkEvent, LinkUp, LinkDown, KeyBasedWrite, OnSession, Overflow, PowerOn, OnDevice, OnLink, lent, step, next, answerOf}
 use Rattle.provider.specs.declared.Device.{Device}
@@ -56,15 +56,22 @@ needsKey (OnSession (PairingEnded success)) = false
 needsKey (OnSession (AccountKeyWrite block)) = true
 needsKey (OnSession (NameWrite packet)) = true
 
--- a name write, on any link
+-- an event of a kind on a session, on any link
+abbrev pub onSession : (PairingEvent → Bool) → Event → Bool
+onSession kind Overflow = false
+onSession kind (PowerOn stored name start) = false
+onSession kind (OnDevice t e) = false
+onSession kind (OnLink l t LinkUp) = false
+onSession kind (OnLink l t LinkDown) = false
+onSession kind (OnLink l t (KeyBasedWrite request element salt nonce out packet)) = false
+onSession kind (OnLink l t (OnSession e)) = kind e
+
+-- an account key write, of any key
+abbrev pub writesKey : Event → Bool
+writesKey = onSession isAccountKeyWrite
+
 abbrev pub writesName : Event → Bool
-writesName Overflow = false
-writesName (PowerOn stored name start) = false
-writesName (OnDevice t e) = false
-writesName (OnLink l t LinkUp) = false
-writesName (OnLink l t LinkDown) = false
-writesName (OnLink l t (KeyBasedWrite request element salt nonce out packet)) = false
-writesName (OnLink l t (OnSession e)) = isNameWrite e
+writesName = onSession isNameWrite
 
 -- ---- what is seen of a run: `S` is a state and `R` all that an answer hands out
 pub record Observed (S R : Type 0) : Type 0 where
@@ -108,11 +115,10 @@ module _ {S R : Type 0} (o : Observed S R) where
   abbrev pub Compared : S → S → Event → Type 0
   Compared d c e = (Alike d c e ⊎ Lost d c e) × ((k : AccountKey) → Stores c e k → Stores d e k)
 
-  -- the parting: the first run stores a key and the second does not, or the first takes a name and the second gets 9
+  -- the parting, document 02 (ii): "the first account key write, of a new or a held key, or name that only the first run takes"; it
+  -- gets 0 there, and 9 in the second run
   abbrev pub Parting : S → S → Event → Type 0
-  Parting d c e =
-      ((k : AccountKey) × Stores d e k × (Stores c e k → ⊥))
-      ⊎ ((writesName e ≡ true) × (o .number d e ≡ 0) × (o .number c e ≡ 9))
+  Parting d c e = ((writesKey e or writesName e) ≡ true) × (o .number d e ≡ 0) × (o .number c e ≡ 9)
 
   -- up to and including the parting every event compares, and after each event but the parting the written lists and the names
   -- are equal

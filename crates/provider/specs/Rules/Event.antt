@@ -10,7 +10,7 @@ use Rattle.additional_data.specs.Packet.{packetSized}
 use Rattle.basics.specs.declared.Address.{Address}
 use Rattle.basics.specs.declared.Answer.{Answer}
 use Rattle.basics.specs.declared.Answer.the-variants.{Taken, WrongLength, PasskeyTooLarge, OutputTooShort}
-use Rattle.key_based.specs.Decision.{decided, requestOutputs, packetLength}
+use Rattle.key_based.specs.Decision.{decided, usedIn, requestOutputs, packetLength}
 use Rattle.key_based.specs.Request.{noBond, sized}
 use Rattle.key_based.specs.declared.Context.{Context}
 use Rattle.key_based.specs.declared.Decision.{Decision}
@@ -120,7 +120,7 @@ contextOf d =
 abbrev pub requested : Device → ℕ → Decision → Outcome
 requested d l r =
     record {
-      next = withLink (withGuard d (r .guard)) l (r .session);
+      next = withLink (withGuard (withKeys d (usedIn (r .uses) (r .session .key) (d .keys))) (r .guard)) l (r .session);
       reply = record {
         answer = r .answer;
         tried = r .tried;

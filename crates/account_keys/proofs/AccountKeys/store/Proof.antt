@@ -9,13 +9,16 @@ use Rattle.account_keys.proofs.Laws.{held-kept, stored-held, stored-ful
 
 returns : tie.Need-returns
 returns c =
-    let start = c .before .before in
-    stored-held (start .args .self) (start .args .key) (start .pre) (sym (c .before .holds .ensures) ∙ c .if1 .taken)
+    let at-holds = c .before .before in
+    let start = at-holds .before in
+    c .used .ensures
+    ∙ ap kept (stored-held (start .args .self) (start .args .key) (start .pre)
+    (sym (at-holds .holds .ensures) ∙ c .before .if1 .taken))
 
 push-requires : tie.Need-push-requires
 push-requires c κs =
     let start = c .before .before .before .before in
-    rw (c .without-oldest .ensures) (Kept-drop (start .args .self) (start .args .key) (start .pre) (start .pre .few))
+    rw (c .without-first .ensures) (Kept-drop (start .args .self) (start .args .key) (start .pre) (start .pre .few))
 
 returns-2 : tie.Need-returns-2
 returns-2 c =
@@ -23,7 +26,7 @@ returns-2 c =
     let other = full .before in
     let start = other .before .before in
     let ks = start .args .self in
-    c .push .ensures ∙ rw (c .before .without-oldest .ensures, held-kept (drop 1 (held ks)))
+    c .push .ensures ∙ rw (c .before .without-first .ensures, held-kept (drop 1 (held ks)))
     (ap kept (stored-full ks (start .args .key) (start .pre) (sym (other .before .holds .ensures) ∙ other .if1 .left)
     (full .if2 .taken)))
 
@@ -38,6 +41,7 @@ pub store-spec : {M : Type 1} → statement M
 store-spec =
     tie.close
     (tie.spec
+    (λ c κs. search needs)
     (λ c κs. search needs)
     returns
     (λ c κs. search needs)

@@ -3,7 +3,7 @@ use mathlib.Core.Path.{ap, _∙_}
 use lib.ListN.{length}
 use borrow.Author.Tests.{not-true, not-false}
 use Rattle.provider.specs.Rules.Device.{Effect}
-use Rattle.provider.proofs.Checks.{event-refused, event-passed, request-sized, context-valid, clock-name, request-gives, request-leaves}
+use Rattle.provider.proofs.Checks.{event-refused, event-passed, request-sized, context-valid, clock-kept, clock-name, request-gives, request-leaves}
 use Rattle.provider.specs.Rules.Event.{KeyBasedWrite}
 use borrow.Author.Needs.{needs}
 use Rattle.provider.proofs.Device.key_based_write.Statement.{statement}
@@ -64,8 +64,11 @@ requested-requires c κs =
     (KeyBasedWrite (start .args .request .now) (start .args .element) (start .args .salt) (start .args .nonce)
     (start .args .out .now) (start .args .packet .now))
     (at-request-size .request-size .ensures) (at-on-known-link .on-known-link .ensures)
-    (not-false (at-on-known-link .on-known-link .result .passed) (at-if1 .if1 .left)) in
-    (p .known, rw (p .next) (clock-name (start .args .self) (start .args .clock .0) (start .pre)))
+    (not-false (at-on-known-link .on-known-link .result .passed) (at-if1 .if1 .left)) in (
+      p .known,
+      rw (p .next) (clock-kept (start .args .self) (start .args .clock .0) (start .pre)),
+      rw (p .next) (clock-name (start .args .self) (start .args .clock .0) (start .pre)),
+    )
 
 returns-2 : tie.Need-returns-2
 returns-2 c =

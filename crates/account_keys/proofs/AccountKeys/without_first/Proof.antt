@@ -9,8 +9,8 @@ use Rattle.laws.proofs.Loops.{at-limit}
 use Rattle.laws.proofs.Padded.{paste-drop-more}
 use Rattle.account_keys.specs.Keys.{limit, zeroKey}
 use Rattle.account_keys.specs.declared.AccountKeys.{AccountKeys}
-use Rattle.account_keys.proofs.AccountKeys.without_oldest.Tie as tie
-use Rattle.account_keys.proofs.AccountKeys.without_oldest.Statement.{statement}
+use Rattle.account_keys.proofs.AccountKeys.without_first.Tie as tie
+use Rattle.account_keys.proofs.AccountKeys.without_first.Statement.{statement}
 use Rattle.account_keys.proofs.Laws.{absentKey, length-keys, kept-drop}
 
 abbrev Inv-loop : tie.InvT-loop
@@ -45,8 +45,8 @@ returns c =
       count = limit - 1;
     }) ∙ kept-drop ks (start .pre .0) (start .pre .1)
 
-pub without-oldest-spec : {M : Type 1} → statement M
-without-oldest-spec =
+pub without-first-spec : {M : Type 1} → statement M
+without-first-spec =
     tie.close
     (tie.spec
     Inv-loop
