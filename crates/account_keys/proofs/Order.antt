@@ -7,14 +7,14 @@ use Prim.Native.Nat.{ℕ, _≤_}
 use lib.Dec.{eqb, leb}
 use lib.ListN.{length, drop, getD}
 use borrow.Author.Tests.{leb-true, not-true}
-use Rattle.laws.proofs.Choice.{true-is, and-right, or-right, or-false-left, or-false-right}
+use Rattle.laws.proofs.Choice.{true-is, if-same, and-right, or-right, or-false, or-false-left, or-false-right}
 use Rattle.laws.specs.Choice.{if_then_else_, _and_, _or_}
 use Rattle.account_keys.specs.Keys.{limit, member, without, used, owned, stored}
 use Rattle.account_keys.specs.Promises.{standsBefore, GoesLast, StoredGoesLast, RemovesFirst, OnlyFirstRemoved, LastUsedAgain}
 use Rattle.account_keys.specs.declared.AccountKey.{AccountKey}
 use Rattle.basics.proofs.Laws.{same-eq, same-refl}
 use Rattle.basics.specs.Bytes.{same}
-use Rattle.account_keys.proofs.StoredList.{member-snoc, owned-snoc}
+use Rattle.account_keys.proofs.StoredList.{member-snoc, member-last, owned-snoc}
 use Rattle.account_keys.proofs.Storing.{member-drop}
 use Rattle.account_keys.proofs.Use.{member-permuted, use-permutes, use-held}
 use Rattle.account_keys.proofs.Without.{removed, without-absent, without-append}
@@ -55,10 +55,7 @@ member-without (x ∷ xs) k b e = go (same (x .bytes) (k .bytes)) (same (x .byte
         → (member (without xs k) b ≡ true → member xs b ≡ true) → (s or member xs b) ≡ true
     go c true q h r = refl
     go true false q h r = r h
-    go false false q h r = r (sym (or-first q) ∙ h)
-      where
-        or-first : {c m : Bool} → c ≡ false → (c or m) ≡ m
-        or-first e = rw e
+    go false false q h r = r (rw q at h)
 
 -- the others keep their order
 before-without : (l : List AccountKey) (k a b : AccountKey) → standsBefore (without l k) a b ≡ true → standsBefore l a b ≡ true
@@ -88,21 +85,13 @@ last-before-none (x ∷ xs) k b e =
 before-last : (l : List AccountKey) (k a b : AccountKey) → standsBefore (l ++ (k ∷ [])) a b ≡ true
     → same (k .bytes) (b .bytes) ≡ false
     → standsBefore l a b ≡ true
-before-last [] k a b e n = absurd (true-is (sym (none (same (k .bytes) (a .bytes))) ∙ e))
-  where
-    none : (c : Bool) → (if c then false else false) ≡ false
-    none true = refl
-    none false = refl
+before-last [] k a b e n = absurd (true-is (sym (if-same (same (k .bytes) (a .bytes)) (λ _. refl)) ∙ e))
 before-last (x ∷ xs) k a b e n = go (same (x .bytes) (a .bytes)) e (λ h. before-last xs k a b h n)
   where
     go : (c : Bool) → (if c then member (xs ++ (k ∷ [])) b else standsBefore (xs ++ (k ∷ [])) a b) ≡ true
         → (standsBefore (xs ++ (k ∷ [])) a b ≡ true → standsBefore xs a b ≡ true)
         → (if c then member xs b else standsBefore xs a b) ≡ true
-    go true h r = sym (member-snoc xs k b ∙ rw n (or-second (member xs b))) ∙ h
-      where
-        or-second : (m : Bool) → (m or false) ≡ m
-        or-second true = refl
-        or-second false = refl
+    go true h r = sym (member-snoc xs k b ∙ rw n (or-false (member xs b))) ∙ h
     go false h r = r h
 
 -- ---- an account key write
@@ -167,8 +156,6 @@ pub last-used-again : LastUsedAgain
 last-used-again l k o =
     let new : member l k ≡ false = not-true (member l k) (and-right (eqb (getD (k .bytes) 0 0) 4) (not (member l k))
     (and-right (owned l) (eqb (getD (k .bytes) 0 0) 4 and not (member l k)) (sym (owned-snoc l k) ∙ o))) in
-    let held : member (l ++ (k ∷ [])) k ≡ true = member-snoc l k k ∙ or-right (member l k) (same (k .bytes) (k .bytes))
-    (same-refl (k .bytes)) in
     let rest : without (l ++ (k ∷ [])) k ≡ l = without-append l (k ∷ []) k
     ∙ rw (same-refl (k .bytes), without-absent l k new) (append-nil l) in
-    sym (use-held (l ++ (k ∷ [])) k held) ∙ ap (λ (m : List AccountKey). m ++ (k ∷ [])) rest
+    sym (use-held (l ++ (k ∷ [])) k (member-last l k)) ∙ ap (λ (m : List AccountKey). m ++ (k ∷ [])) rest

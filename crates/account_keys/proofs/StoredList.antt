@@ -13,7 +13,7 @@ use lib.Seq.{take-length, drop-length, paste, take-suc, getD-take, drop-drop, le
 use borrow.Author.Tests.{le-leb, lt-leb, eq-eqb, ne-eqb}
 use borrow.Rule.Slice.PartMut.{putMid, same-len-mid}
 use Rattle.laws.proofs.All.{all-get, all-take}
-use Rattle.laws.proofs.Choice.{and-false}
+use Rattle.laws.proofs.Choice.{and-false, or-false, or-right}
 use Rattle.laws.proofs.Lists.{paste-at, set4-front}
 use Rattle.laws.specs.BigEndian.{number2}
 use Rattle.laws.specs.Choice.{_and_, _or_}
@@ -28,7 +28,7 @@ use Rattle.basics.specs.Output.{reportOf, placed}
 use Rattle.basics.specs.declared.Answer.the-variants.{Taken, OutputTooShort}
 use Rattle.basics.specs.declared.Report.{Report}
 use Rattle.account_keys.proofs.Laws.{absentKey, held-kept}
-use Rattle.basics.proofs.Laws.{same-comm}
+use Rattle.basics.proofs.Laws.{same-comm, same-refl}
 use Rattle.basics.proofs.Lent.{left-alone, all-written}
 
 -- ---- writing
@@ -74,16 +74,16 @@ length-keysIn b (suc n) = rw (length-append (keysIn b n) (keyAt b n ∷ []), len
 pub member-snoc : (l : List AccountKey) (k x : AccountKey) → member (l ++ (k ∷ [])) x ≡
     (member l x or same (k .bytes) (x .bytes))
 member-snoc [] k x = or-false (same (k .bytes) (x .bytes))
-  where
-    or-false : (b : Bool) → (b or false) ≡ b
-    or-false true = refl
-    or-false false = refl
 member-snoc (y ∷ ys) k x =
     rw (member-snoc ys k x) (or-assoc (same (y .bytes) (x .bytes)) (member ys x) (same (k .bytes) (x .bytes)))
   where
     or-assoc : (a b c : Bool) → (a or (b or c)) ≡ ((a or b) or c)
     or-assoc true b c = refl
     or-assoc false b c = refl
+
+-- the last key is held
+pub member-last : (l : List AccountKey) (k : AccountKey) → member (l ++ (k ∷ [])) k ≡ true
+member-last l k = member-snoc l k k ∙ or-right (member l k) (same (k .bytes) (k .bytes)) (same-refl (k .bytes))
 
 owned-regroup : (a m s o b n : Bool)
     → (a and (not (m or s) and (o and (b and not n)))) ≡ ((a and (not m and o)) and (b and not (s or n)))

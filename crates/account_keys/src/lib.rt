@@ -68,7 +68,7 @@ impl AccountKeys {
         false
     }
 
-    // The keys after an account key write: one that is held is used, and a new one takes the place of the first in a full list.
+    // The keys after an account key write: one that is held is used; for a new one, which goes last, a full list loses its first.
     pub fn store(self, key: AccountKey) -> AccountKeys
         requires { ⌜ Kept self ⌝ }
         ensures { λ r. ⌜ r ≡ kept (stored (held self) key) ⌝ }

@@ -32,6 +32,10 @@ pub or-right : (a b : Bool) → b ≡ true → (a or b) ≡ true
 or-right true b e = refl
 or-right false b e = e
 
+pub or-false : (a : Bool) → (a or false) ≡ a
+or-false true = refl
+or-false false = refl
+
 pub or-false-left : (a b : Bool) → (a or b) ≡ false → a ≡ false
 or-false-left true b e = e
 or-false-left false b e = refl

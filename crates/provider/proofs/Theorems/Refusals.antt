@@ -7,7 +7,7 @@ use Prim.Native.Nat.{ℕ}
 use lib.Dec.{ltb}
 use lib.ListN.{length}
 use lib.Seq.{set-getD}
-use Rattle.laws.proofs.Choice.{true-is}
+use Rattle.laws.proofs.Choice.{true-is, if-same}
 use Rattle.laws.specs.Choice.{if_then_else_}
 use Rattle.additional_data.specs.Packet.{packetSized}
 use Rattle.basics.specs.Answers.{isTaken, isOneOf}
@@ -151,11 +151,6 @@ module _ (d : Device) (l t : ℕ) where
           packet = 0;
         }
 
--- no key tried is told as 0, whatever the answer
-none-tried : (b : Bool) → _≡_ {A = ℕ} 0 (if b then 0 else 0)
-none-tried true = refl
-none-tried false = refl
-
 -- ---- every event
 
 told-on-link : (d : Device) (l t : ℕ) (e : LinkEvent) → Tells d (OnLink l t e) (onLink e (clockStep t d) l t)
@@ -177,7 +172,8 @@ told-on-link d l t (OnSession e) = record {
     session-next d l t e h,
     session-reply d l t e h,
   );
-  tried = none-tried (isOneOf (0 ∷ 7 ∷ 8 ∷ []) (sessionStep e t (sessionAt (clockStep t d .sessions) l) .answer));
+  -- no key is tried: told is 0, whatever the answer
+  tried = sym (if-same (isOneOf (0 ∷ 7 ∷ 8 ∷ []) (sessionStep e t (sessionAt (clockStep t d .sessions) l) .answer)) (λ _. refl));
 }
 
 told : (d : Device) {e : Event} {x : Effect} → event.Way d e x → Tells d e x

@@ -5,26 +5,20 @@ use mathlib.Core.List.{List, [], _∷_, _++_}
 use mathlib.Core.Path.{_≡_, refl, sym, ap, _∙_}
 use lib.Dec.{leb}
 use lib.ListN.{length, drop}
-use Rattle.laws.proofs.Choice.{true-is, or-right}
+use Rattle.laws.proofs.Choice.{true-is}
 use Rattle.laws.specs.Choice.{if_then_else_}
 use Rattle.account_keys.specs.Keys.{limit, held, member, without, used, stored}
 use Rattle.account_keys.specs.StoredList.{reading, writing}
 use Rattle.account_keys.specs.declared.AccountKey.{AccountKey}
 use Rattle.account_keys.specs.declared.AccountKeys.{AccountKeys}
 use Rattle.account_keys.specs.declared.Reading.{Reading}
-use Rattle.basics.specs.Bytes.{same}
 use Rattle.provider.specs.Demands.Gap.{rules, Lists, Stores}
 use Rattle.provider.specs.Rules.Event.{Event, next}
 use Rattle.provider.specs.declared.Device.{Device}
 use Rattle.account_keys.specs.Keys as keys
 use Rattle.account_keys.proofs.ReadBack.{reads-back}
+use Rattle.account_keys.proofs.StoredList.{member-last}
 use Rattle.account_keys.proofs.Use.{use-held}
-use Rattle.basics.proofs.Laws.{same-refl}
-
--- the last key of a list is a member
-member-last : (l : List AccountKey) (k : AccountKey) → member (l ++ (k ∷ [])) k ≡ true
-member-last [] k = rw (same-refl (k .bytes))
-member-last (x ∷ xs) k = or-right (same (x .bytes) (k .bytes)) (member (xs ++ (k ∷ [])) k) (member-last xs k)
 
 -- a key that was stored is a member
 pub member-stored : (l : List AccountKey) (k : AccountKey) → member (stored l k) k ≡ true

@@ -57,21 +57,21 @@ needsKey (OnSession (AccountKeyWrite block)) = true
 needsKey (OnSession (NameWrite packet)) = true
 
 -- an event of a kind on a session, on any link
-abbrev pub onSession : (PairingEvent → Bool) → Event → Bool
-onSession kind Overflow = false
-onSession kind (PowerOn stored name start) = false
-onSession kind (OnDevice t e) = false
-onSession kind (OnLink l t LinkUp) = false
-onSession kind (OnLink l t LinkDown) = false
-onSession kind (OnLink l t (KeyBasedWrite request element salt nonce out packet)) = false
-onSession kind (OnLink l t (OnSession e)) = kind e
+abbrev pub isSessionEvent : (PairingEvent → Bool) → Event → Bool
+isSessionEvent kind Overflow = false
+isSessionEvent kind (PowerOn stored name start) = false
+isSessionEvent kind (OnDevice t e) = false
+isSessionEvent kind (OnLink l t LinkUp) = false
+isSessionEvent kind (OnLink l t LinkDown) = false
+isSessionEvent kind (OnLink l t (KeyBasedWrite request element salt nonce out packet)) = false
+isSessionEvent kind (OnLink l t (OnSession e)) = kind e
 
 -- an account key write, of any key
 abbrev pub writesKey : Event → Bool
-writesKey = onSession isAccountKeyWrite
+writesKey = isSessionEvent isAccountKeyWrite
 
 abbrev pub writesName : Event → Bool
-writesName = onSession isNameWrite
+writesName = isSessionEvent isNameWrite
 
 -- ---- what is seen of a run: `S` is a state and `R` all that an answer hands out
 pub record Observed (S R : Type 0) : Type 0 where
