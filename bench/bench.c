@@ -8,6 +8,8 @@
  * that were good. LENGTH is that of the message, of the name to seal or of the packet to open; a
  * block has 16 bytes.
  */
+#define _POSIX_C_SOURCE 200809L /* clock_gettime */
+
 #include <bearssl.h>
 #include <stdbool.h>
 #include <stdint.h>

@@ -9,19 +9,16 @@
  * A device goes in by value, so every call does the same work. `interface` calls, on the row's own device, what only
  * reads it in and writes it out. Exit 1 if an event does not get the answer meant.
  */
-#include "../include/fastpair.h"
+#define _DEFAULT_SOURCE /* the members of stack_t */
 
-#include <bearssl.h>
+#include "../include/fastpair.h"
+#include "seeker.h"
+
 #include <stdio.h>
 #include <stdlib.h>
-#include <string.h>
 #include <ucontext.h>
 
-/* BearSSL's small AES and its key schedule: in its archive, and not in its headers. */
-unsigned br_aes_keysched(uint32_t *skey, const void *key, size_t key_len);
-void br_aes_small_encrypt(unsigned num_rounds, const uint32_t *skey, void *data);
-
-enum { LINK = 3, NO_LINK = 8, BEFORE = 1000, NOW = 2000, PASSKEY = 123456, SCHEDULE_WORDS = 60 };
+enum { LINK = 3, NO_LINK = 8, BEFORE = 1000, NOW = 2000, PASSKEY = 123456 };
 enum { STACK_BYTES = 256 * 1024, PAINT = 0xA5 };
 
 /* Whose key a request is under: an account key's place in the list, a key that nobody holds, the shared secret's. */
@@ -59,24 +56,17 @@ static void account_key(unsigned place, uint8_t key[16])
 
 static void key_under(unsigned whose, uint8_t key[16])
 {
-	uint8_t digest[32];
-	br_sha256_context context;
-	if (whose != SHARED) {
+	if (whose == SHARED)
+		seeker_shared_key(ELEMENT.secret, key);
+	else
 		account_key(whose, key);
-		return;
-	}
-	br_sha256_init(&context);
-	br_sha256_update(&context, ELEMENT.secret, sizeof ELEMENT.secret);
-	br_sha256_out(&context, digest);
-	memcpy(key, digest, 16);
 }
 
 static void encrypt(unsigned whose, uint8_t block[16])
 {
 	uint8_t key[16];
-	uint32_t schedule[SCHEDULE_WORDS];
 	key_under(whose, key);
-	br_aes_small_encrypt(br_aes_keysched(schedule, key, sizeof key), schedule, block);
+	seeker_encrypt(key, block);
 }
 
 static void make_request(unsigned whose, uint8_t salt)
@@ -98,26 +88,13 @@ static void make_blocks(unsigned written)
 	encrypt(SHARED, account_block);
 }
 
-/* The packet with which the phone names the device: its tag, its nonce, and the name under the counter mode. */
+/* The packet with which the phone names the device. */
 static void make_name_write(size_t length)
 {
-	uint8_t key[16];
-	br_hmac_key_context padded;
-	br_hmac_context context;
-	written_length = 16 + length;
-	memcpy(written_packet + 8, NONCE, 8);
-	for (size_t at = 0; at < length; at += 16) {
-		uint8_t block[16] = { (uint8_t)(at / 16) };
-		memcpy(block + 8, NONCE, 8);
-		encrypt(SHARED, block);
-		for (size_t i = 0; i < 16 && at + i < length; i++)
-			written_packet[16 + at + i] = 'w' ^ block[i];
-	}
+	uint8_t key[16], written[FP_NAME_MAX];
 	key_under(SHARED, key);
-	br_hmac_key_init(&padded, &br_sha256_vtable, key, sizeof key);
-	br_hmac_init(&context, &padded, 8);
-	br_hmac_update(&context, written_packet + 8, 8 + length);
-	br_hmac_out(&context, written_packet);
+	memset(written, 'w', sizeof written);
+	written_length = seeker_seal(key, NONCE, written, length, written_packet);
 }
 
 static void make_list(unsigned keys)

@@ -1,4 +1,5 @@
-"""What the benchmarks bench/run and bench/events share: commands that must succeed, and the instructions that callgrind counts.
+"""What the benchmarks bench/run, bench/events and bench/replay share: commands that must succeed, and the instructions that callgrind
+counts.
 
 It measures nothing by itself.
 """
@@ -18,7 +19,7 @@ FEW, MANY = 10, 510
 
 
 def install_missing():
-    missing = [] if shutil.which("valgrind") else ["valgrind"]
+    missing = [tool for tool in ("valgrind", "time") if not shutil.which(tool)]
     if not pathlib.Path("/usr/include/bearssl.h").exists():
         missing.append("libbearssl-dev")
     if missing:
@@ -32,7 +33,8 @@ def compiled(name, archive):
         sys.exit(f"{archive.relative_to(ROOT)} is not there")
     FOLDER.mkdir(parents=True, exist_ok=True)
     program = FOLDER / name
-    run(["cc", "-O2", "-Wall", "-o", program, ROOT / "bench" / f"{name}.c", archive, "-l:libbearssl.a"])
+    flags = ["-std=c11", "-O2", "-Wall", "-Wextra", "-Werror"]
+    run(["cc", *flags, "-o", program, ROOT / "bench" / f"{name}.c", archive, "-l:libbearssl.a"])
     return program
 
 
@@ -70,6 +72,11 @@ def inclusive(lines):
     return costs
 
 
+# What the calls from elsewhere into functions with these names cost: what these call of their own is in it.
+def entered(costs, names):
+    return sum(cost for calls, cost in costs.items() if calls and calls[1].startswith(names) and not calls[0].startswith(names))
+
+
 def run(command):
     words = [str(word) for word in command]
     if not shutil.which(words[0]):
@@ -82,4 +89,4 @@ def run(command):
 
 if __name__ == "__main__":
     argparse.ArgumentParser(prog="bench/measure.py", description=__doc__).parse_args()
-    sys.exit("nothing to run here: bench/run and bench/events are the benchmarks")
+    sys.exit("nothing to run here: bench/run, bench/events and bench/replay are the benchmarks")

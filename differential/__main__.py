@@ -9,6 +9,7 @@ from reference.generator.options import above_zero, add_run_options
 from . import two_keys_fit
 from .any_bytes import AnyBytes
 from .library import load
+from .records import Records
 from .report import archive, failed, reached
 from .runs import Failure, runs
 from .selftest import selftest
@@ -29,7 +30,8 @@ def compare(library, options):
     """The exit code: 1 for a difference, or for something that had to be reached and was not."""
     begin = time.perf_counter()
     any_bytes = AnyBytes(library, options.seed)
-    tally, failure = runs(library, options.seed, options.events, options.list_length, any_bytes)
+    records = Records(library, options.seed)
+    tally, failure = runs(library, options.seed, options.events, options.list_length, any_bytes, records)
     print(reached(tally))
     seconds = time.perf_counter() - begin
     print(f"{tally.events} events in {tally.runs} runs, {seconds:.1f} s")

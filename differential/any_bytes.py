@@ -3,8 +3,8 @@
 from collections import Counter
 from random import Random
 
-from reference.rules import events
-from reference.rules.events import plain_reply
+from reference.generator.every_kind import one_of_each
+from reference.rules.events import Overflow, plain_reply
 
 from . import corrupted_device
 from .compare import Difference
@@ -13,29 +13,6 @@ from .struct_values import differing, values
 
 NOT_A_DEVICE = 255
 LAST_ANSWER = 15
-
-
-def one_of_each(random, clock):
-    """An event of every kind, with random bytes."""
-    link, data = random.randrange(8), random.randbytes
-    out, size = data(random.randrange(16, 40)), random.choice((16, 80))
-    brought, second = (True, data(32), data(9), data(8)), data(random.randrange(80, 100))
-    return (
-        events.Overflow(),
-        events.LinkUp(link, clock),
-        events.LinkDown(link, clock),
-        events.PairingMode(random.random() < 0.5, clock),
-        events.AddressRotated(data(6), data(2), clock),
-        events.PowerOn(bytes((0, 2, 1, 0)), b"any name", data(6), data(6), data(3), data(2)),
-        events.FactoryReset(clock),
-        events.KeyBasedWrite(link, clock, data(size), *brought, out, second),
-        events.PairingStarted(link, clock, 1),
-        events.ConfirmationNeeded(link, clock, 123_456),
-        events.PasskeyWrite(link, clock, data(16), data(12), out),
-        events.PairingEnded(link, clock, random.random() < 0.5),
-        events.AccountKeyWrite(link, clock, data(16)),
-        events.NameWrite(link, clock, data(random.randrange(16, 81))),
-    )
 
 
 class AnyBytes:
@@ -99,7 +76,7 @@ class AnyBytes:
         corrupted_device.any_numbers(self.random, odd)
         for event in kinds:
             after, reply = self.library.step(odd, event)
-            _, again = self.library.step(after, events.Overflow())
+            _, again = self.library.step(after, Overflow())
             if reply.answer > LAST_ANSWER or again.answer != 0:
                 return differs(corrupted_device.any_numbers, event, odd, "an answer of the table", reply)
         return None

@@ -32,6 +32,17 @@ QUESTIONS = {
     "fp_advertisement": (NUMBER, *SLICE),
     "fp_stored_list": SLICE,
 }
+# A writer of records has its event's arguments, but of lent outputs the lengths alone; then the record's output.
+WRITERS = {
+    **EVENTS,
+    "fp_key_based_write": (LINK, CLOCK, *SLICE, FpElement, *FIXED, *FIXED, c_size_t, c_size_t),
+    "fp_passkey_write": (LINK, CLOCK, *SLICE, *FIXED, c_size_t),
+}
+
+
+def writer(event):
+    """The name of the writer of records that belongs to an event's function."""
+    return event.replace("fp_", "fp_record_", 1)
 
 
 def functions_in_header():
@@ -41,7 +52,7 @@ def functions_in_header():
 
 def bind(path):
     """The functions of the shared object, by name."""
-    if functions_in_header() != {"fp_off", *EVENTS, *QUESTIONS}:
+    if functions_in_header() != {"fp_off", *EVENTS, *QUESTIONS, *map(writer, WRITERS)}:
         raise WrongLayout(f"other functions: {sorted(functions_in_header())}")
     shared = CDLL(str(path))
     bound = {"fp_off": typed(shared.fp_off, (), FpDevice)}
@@ -49,6 +60,8 @@ def bind(path):
         bound[name] = typed(getattr(shared, name), (FpDevice, *arguments), FpOutcome)
     for name, arguments in QUESTIONS.items():
         bound[name] = typed(getattr(shared, name), (FpDevice, *arguments), FpReport)
+    for name, arguments in WRITERS.items():
+        bound[writer(name)] = typed(getattr(shared, writer(name)), (*arguments, *SLICE), FpReport)
     return bound
 
 

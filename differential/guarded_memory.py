@@ -22,7 +22,7 @@ class GuardedMemory:
         self.view = memoryview(self.array).cast("B")
         self.view[:GUARD] = BEFORE
         self.address = addressof(self.array) + GUARD
-        self.size = 0
+        self.lent = b""
 
     def lend(self, data):
         """The address of the data, lent with guard bytes around it."""
@@ -31,24 +31,24 @@ class GuardedMemory:
             raise ValueError(f"{len(data)} bytes are more than the room of {self.name}")
         self.view[GUARD:end] = data
         self.view[end : end + GUARD] = BEHIND
-        self.size = len(data)
+        self.lent = data
         return self.address
 
-    def lend_or_null(self, data):
-        """ "A pointer with a length may be anything if the length is 0": then it is NULL."""
+    def lend_slice(self, data):
+        """Address and length. "A pointer with a length may be anything if the length is 0": then it is NULL."""
         address = self.lend(data)
-        return address if data else None
+        return address if data else None, len(data)
 
     def bytes_after(self):
         """The lent bytes after the call."""
-        end = GUARD + self.size
+        end = GUARD + len(self.lent)
         guards = self.view[:GUARD], self.view[end : end + GUARD]
         if guards != (BEFORE, BEHIND):
             self.view[:GUARD] = BEFORE
             raise InterfaceViolation(f"bytes around the lent {self.name} were written")
         return bytes(self.view[GUARD:end])
 
-    def check_kept(self, data):
+    def check_kept(self):
         """Raise if an input was written to."""
-        if self.bytes_after() != data:
+        if self.bytes_after() != self.lent:
             raise InterfaceViolation(f"the input {self.name} was written to")

@@ -1,18 +1,20 @@
 """The built library, called with the events of the reference."""
 
 from ctypes import c_uint8
-from dataclasses import replace
 
 from reference.rules import events
 from reference.rules.events import Reply
+from reference.rules.recording import LENT
 
-from .bindings import bind
+from .bindings import bind, writer
 from .build import build
 from .guarded_memory import GuardedMemory, InterfaceViolation
 from .structs import FpAddress, FpElement, FpIdentity, FpStart
 
 CONFIRM = {0: None, 1: True, 2: False}
 NO_ADDRESS = bytes(6)
+# For events whose record is too long, and lengths that do not fit into two bytes.
+LONG = 70_000
 
 
 class Library:
@@ -20,12 +22,12 @@ class Library:
 
     def __init__(self, functions):
         self.functions = functions
-        self.input = GuardedMemory("request, block, list or packet")
-        self.name = GuardedMemory("name")
+        self.input = GuardedMemory("request, block, list or packet", LONG)
+        self.name = GuardedMemory("name", LONG)
         self.salt = GuardedMemory("salt")
         self.nonce = GuardedMemory("nonce")
-        self.output = GuardedMemory("output")
-        self.second_output = GuardedMemory("second output")
+        self.outputs = GuardedMemory("output"), GuardedMemory("second output")
+        self.written = GuardedMemory("output of a question or a record", LONG)
 
     def off(self):
         """The value before any device."""
@@ -33,52 +35,50 @@ class Library:
 
     def step(self, device, event):
         """The next fp_device and the reply; raises if memory was written that was not lent."""
-        return CALLS[type(event)](self, device, event)
+        name, inputs, arguments = CALLS[type(event)]
+        lent = lent_outputs(event)
+        addresses = (memory.lend(out) for memory, out in zip(self.outputs, lent))
+        slices = [part for address, out in zip(addresses, lent) for part in (address, len(out))]
+        outcome = self.functions[name](device, *arguments(self, event), *slices)
+        self.check_kept(inputs)
+        check_zero(outcome.reserved)
+        outputs = [memory.bytes_after() for memory, _ in zip(self.outputs, lent)]
+        return outcome.next, reply_of(outcome.reply, *outputs)
+
+    def record(self, event, out, lengths=None):
+        """The answer, the number of bytes written and the output afterwards, with these lengths of the lent outputs."""
+        name, inputs, arguments = CALLS[type(event)]
+        lengths = map(len, lent_outputs(event)) if lengths is None else lengths
+        lent = self.written.lend_slice(out)
+        report = self.functions[writer(name)](*arguments(self, event), *lengths, *lent)
+        self.check_kept(inputs)
+        return self.report(report)
 
     def stored_list(self, device, out):
         """The answer, the number of bytes written and the output afterwards."""
-        address = self.output.lend_or_null(out)
-        return self.report(self.functions["fp_stored_list"](device, address, len(out)))
+        return self.report(self.functions["fp_stored_list"](device, *self.written.lend_slice(out)))
 
     def advertisement(self, device, hide, out):
         """The same; `hide` is a number."""
-        address = self.output.lend_or_null(out)
-        return self.report(self.functions["fp_advertisement"](device, hide, address, len(out)))
+        return self.report(self.functions["fp_advertisement"](device, hide, *self.written.lend_slice(out)))
 
     def report(self, report):
         check_zero(report.reserved)
-        return report.answer, report.length, self.output.bytes_after()
+        return report.answer, report.length, self.written.bytes_after()
 
-    def call(self, name, device, *arguments):
-        """An event that lends no output."""
-        outcome = self.functions[name](device, *arguments)
-        check_zero(outcome.reserved)
-        return outcome.next, reply_of(outcome.reply, b"")
-
-    def call_with_input(self, name, device, head, data, tail=()):
-        """An event with an input of any length, and no output."""
-        address = self.input.lend_or_null(data)
-        result = self.call(name, device, *head, address, len(data), *tail)
-        self.input.check_kept(data)
-        return result
-
-    def call_with_output(self, name, device, event, data, element=(), nonce=(), second=()):
-        """An event with an input, a salt and a lent output; a key-based write has more of each."""
-        request = self.input.lend_or_null(data), len(data)
-        salt = self.salt.lend(event.salt)
-        out = self.output.lend(event.out), len(event.out)
-        outcome = self.functions[name](
-            device, event.link, event.clock, *request, *element, salt, *nonce, *out, *second
-        )
-        self.input.check_kept(data)
-        self.salt.check_kept(event.salt)
-        check_zero(outcome.reserved)
-        return outcome.next, reply_of(outcome.reply, self.output.bytes_after())
+    def check_kept(self, inputs):
+        for name in inputs:
+            getattr(self, name).check_kept()
 
 
 def load():
     """The library, built from the archive."""
     return Library(bind(build()))
+
+
+def lent_outputs(event):
+    """The outputs that the event lends, as they were beforehand."""
+    return [getattr(event, name) for name in LENT.get(type(event), ())]
 
 
 def check_zero(reserved):
@@ -87,14 +87,14 @@ def check_zero(reserved):
         raise InterfaceViolation(f"reserved bytes {bytes(reserved).hex()}")
 
 
-def reply_of(reply, out):
+def reply_of(reply, out=b"", packet=b""):
     """The reply in the reference's form; values that the header doesn't know raise InterfaceViolation."""
     bond = bytes(reply.bond.address.bytes)
     wanted = reply.bond.wanted
     if wanted > 1 or reply.confirm > 2 or (not wanted and bond != NO_ADDRESS):
         raise InterfaceViolation(f"wanted {wanted}, bond {bond.hex()}, confirm {reply.confirm}")
     handed_out = reply.tried, bond if wanted else None, CONFIRM[reply.confirm]
-    return Reply(reply.answer, *handed_out, out, reply.packet_length)
+    return Reply(reply.answer, *handed_out, out, reply.packet_length, packet)
 
 
 def array(data):
@@ -107,92 +107,76 @@ def flag_byte(flag, clock):
     return 1 + clock % 255 if flag else 0
 
 
-def power_on(library, device, event):
+def power_on(library, event):
     identity = FpIdentity(FpAddress(array(event.public)), array(event.model))
     start = FpStart(identity, FpAddress(array(event.ble)), array(event.salt))
-    name = library.name.lend_or_null(event.name), len(event.name)
-    result = library.call_with_input("fp_power_on", device, (), event.stored, (*name, start))
-    library.name.check_kept(event.name)
-    return result
+    return *library.input.lend_slice(event.stored), *library.name.lend_slice(event.name), start
 
 
-def overflow(library, device, event):
-    return library.call("fp_overflow", device)
+def overflow(library, event):
+    return ()
 
 
-def link_up(library, device, event):
-    return library.call("fp_link_up", device, event.link, event.clock)
+def link_and_clock(library, event):
+    return event.link, event.clock
 
 
-def link_down(library, device, event):
-    return library.call("fp_link_down", device, event.link, event.clock)
+def pairing_mode(library, event):
+    return flag_byte(event.on, event.clock), event.clock
 
 
-def pairing_mode(library, device, event):
-    return library.call("fp_pairing_mode", device, flag_byte(event.on, event.clock), event.clock)
+def address_rotated(library, event):
+    return FpAddress(array(event.ble)), library.salt.lend(event.salt), event.clock
 
 
-def address_rotated(library, device, event):
-    salt = library.salt.lend(event.salt)
-    ble = FpAddress(array(event.ble))
-    result = library.call("fp_address_rotated", device, ble, salt, event.clock)
-    library.salt.check_kept(event.salt)
-    return result
+def factory_reset(library, event):
+    return (event.clock,)
 
 
-def factory_reset(library, device, event):
-    return library.call("fp_factory_reset", device, event.clock)
-
-
-def key_based_write(library, device, event):
+def key_based_write(library, event):
     element = FpElement(flag_byte(event.accepted, event.clock), array(event.secret))
-    nonce = library.nonce.lend(event.nonce)
-    second = library.second_output.lend(event.packet), len(event.packet)
-    after, reply = library.call_with_output(
-        "fp_key_based_write", device, event, event.data, (element,), (nonce,), second
-    )
-    library.nonce.check_kept(event.nonce)
-    return after, replace(reply, packet=library.second_output.bytes_after())
+    salt, nonce = library.salt.lend(event.salt), library.nonce.lend(event.nonce)
+    return event.link, event.clock, *library.input.lend_slice(event.data), element, salt, nonce
 
 
-def pairing_started(library, device, event):
-    return library.call("fp_pairing_started", device, event.link, event.clock, event.capability)
+def pairing_started(library, event):
+    return event.link, event.clock, event.capability
 
 
-def confirmation_needed(library, device, event):
-    return library.call("fp_confirmation_needed", device, event.link, event.clock, event.passkey)
+def confirmation_needed(library, event):
+    return event.link, event.clock, event.passkey
 
 
-def passkey_write(library, device, event):
-    return library.call_with_output("fp_passkey_write", device, event, event.block)
+def passkey_write(library, event):
+    return event.link, event.clock, *library.input.lend_slice(event.block), library.salt.lend(event.salt)
 
 
-def pairing_ended(library, device, event):
-    success = flag_byte(event.success, event.clock)
-    return library.call("fp_pairing_ended", device, event.link, event.clock, success)
+def pairing_ended(library, event):
+    return event.link, event.clock, flag_byte(event.success, event.clock)
 
 
-def account_key_write(library, device, event):
-    return library.call_with_input("fp_account_key_write", device, (event.link, event.clock), event.block)
+def account_key_write(library, event):
+    return event.link, event.clock, *library.input.lend_slice(event.block)
 
 
-def name_write(library, device, event):
-    return library.call_with_input("fp_name_write", device, (event.link, event.clock), event.packet)
+def name_write(library, event):
+    return event.link, event.clock, *library.input.lend_slice(event.packet)
 
 
+# The function of each event, the inputs that it lends, and its arguments but for the device and the outputs.
 CALLS = {
-    events.PowerOn: power_on,
-    events.Overflow: overflow,
-    events.LinkUp: link_up,
-    events.LinkDown: link_down,
-    events.PairingMode: pairing_mode,
-    events.AddressRotated: address_rotated,
-    events.FactoryReset: factory_reset,
-    events.KeyBasedWrite: key_based_write,
-    events.PairingStarted: pairing_started,
-    events.ConfirmationNeeded: confirmation_needed,
-    events.PasskeyWrite: passkey_write,
-    events.PairingEnded: pairing_ended,
-    events.AccountKeyWrite: account_key_write,
-    events.NameWrite: name_write,
+    events.PowerOn: ("fp_power_on", ("input", "name"), power_on),
+    events.Overflow: ("fp_overflow", (), overflow),
+    events.LinkUp: ("fp_link_up", (), link_and_clock),
+    events.LinkDown: ("fp_link_down", (), link_and_clock),
+    events.PairingMode: ("fp_pairing_mode", (), pairing_mode),
+    events.AddressRotated: ("fp_address_rotated", ("salt",), address_rotated),
+    events.FactoryReset: ("fp_factory_reset", (), factory_reset),
+    events.KeyBasedWrite: ("fp_key_based_write", ("input", "salt", "nonce"), key_based_write),
+    events.PairingStarted: ("fp_pairing_started", (), pairing_started),
+    events.ConfirmationNeeded: ("fp_confirmation_needed", (), confirmation_needed),
+    events.PasskeyWrite: ("fp_passkey_write", ("input", "salt"), passkey_write),
+    events.PairingEnded: ("fp_pairing_ended", (), pairing_ended),
+    events.AccountKeyWrite: ("fp_account_key_write", ("input",), account_key_write),
+    events.NameWrite: ("fp_name_write", ("input",), name_write),
 }

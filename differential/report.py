@@ -6,26 +6,37 @@ from reference.generator.coverage import table
 from reference.generator.shrink import shrink
 
 from .compare import first_difference
-from .paths import ARCHIVE, ROOT
+from .paths import ARCHIVE, PROGRAM, ROOT
 
 
 def archive():
     """The archive that is tested."""
-    digest = hashlib.sha256(ARCHIVE.read_bytes()).hexdigest()
-    return f"archive {ARCHIVE.relative_to(ROOT)}, SHA-256 {digest[:16]}"
+    return f"archive {told(ARCHIVE)}"
+
+
+def program():
+    """The program that is tested."""
+    return f"program {told(PROGRAM)}"
+
+
+def told(path):
+    digest = hashlib.sha256(path.read_bytes()).hexdigest()
+    return f"{path.relative_to(ROOT)}, SHA-256 {digest[:16]}"
 
 
 def reached(tally):
-    """Answers, stages, rare cases and corrupted devices, counted."""
+    """Answers, stages, rare cases, records and corrupted devices, counted."""
     lines = [table(tally.coverage)]
     lines += [f"{times:>7}  {name}" for name, times in tally.rare_cases.counts.items()]
+    rarest, times = min(tally.records.counts.items(), key=lambda found: found[1])
+    lines.append(f"{times:>7}  times the rarest record was compared: {rarest}")
     corrupted = sorted(tally.any_bytes.tried.items())
     lines += [f"{times:>7}  any bytes: {name}" for name, times in corrupted]
     return "\n".join(lines)
 
 
 def shortest(library, failure):
-    """The shortest list that still differs; empty if it takes a corrupted device to show it."""
+    """The shortest list that still differs; empty if a corrupted device or a record shows it."""
     def fails(events):
         return first_difference(library, events) is not None
 

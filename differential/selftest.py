@@ -2,9 +2,10 @@
 
 from unittest import mock
 
-from . import marked_lists, result_mistakes, run_pair, use_mistakes
+from . import marked_lists, record_mistakes, result_mistakes, run_pair, use_mistakes
 from .any_bytes import AnyBytes
 from .compare import first_difference
+from .records import Records
 from .report import shortest
 from .result_mistakes import with_mistakes
 from .run_pair import HELD_KEY, compared_after
@@ -82,6 +83,30 @@ WITH_ANY_BYTES = (
     ("fp_link_up", result_mistakes.unused_key_kept, "any bytes"),
     ("fp_link_up", result_mistakes.unused_name_bytes_kept, "any bytes"),
 )
+# These show in the record of one event, and there is no list either.
+WITH_RECORDS = (
+    ("fp_record_overflow", record_mistakes.last_byte, "record"),
+    ("fp_record_power_on", record_mistakes.last_byte, "record"),
+    ("fp_record_link_up", record_mistakes.kind_byte, "record"),
+    ("fp_record_factory_reset", record_mistakes.length_little_endian, "record"),
+    ("fp_record_link_down", record_mistakes.behind_record, "record"),
+    ("fp_record_address_rotated", record_mistakes.behind_output, "record"),
+    ("fp_record_pairing_started", record_mistakes.written_on_13, "record"),
+    ("fp_record_power_on", record_mistakes.written_on_2, "record"),
+    ("fp_record_passkey_write", record_mistakes.length_without_its_field, "record"),
+    ("fp_record_confirmation_needed", record_mistakes.length_on_refusal, "record"),
+    ("fp_record_name_write", record_mistakes.thirteen_first, "record"),
+    ("fp_record_pairing_ended", record_mistakes.too_short_is_taken, "record"),
+    ("fp_record_account_key_write", record_mistakes.limit_1023, "record"),
+    ("fp_record_account_key_write", record_mistakes.limit_1025, "record"),
+    ("fp_record_name_write", record_mistakes.length_in_two_bytes, "record"),
+    ("fp_record_pairing_mode", record_mistakes.flag_as_it_came, "record"),
+    ("fp_record_pairing_ended", record_mistakes.reserved_not_zero, "record"),
+    ("fp_record_key_based_write", record_mistakes.secret_of_a_rejected_point, "record"),
+    ("fp_record_key_based_write", record_mistakes.lengths_exchanged, "record"),
+    ("fp_record_passkey_write", record_mistakes.length_in_four_bytes, "record"),
+    ("fp_record_account_key_write", record_mistakes.input_written, "record"),
+)
 # These are looked for by the two runs of demand 3.
 WITH_TWO_RUNS = (
     ("fp_overflow", result_mistakes.marker_ignored, "after a marker"),
@@ -123,9 +148,19 @@ def in_lists(library, name, mistake, called):
 
 def in_any_bytes(library, name, mistake, called):
     wrong = with_mistakes(library, {name: mistake})
-    _, failure = runs(wrong, 1, EVENTS, LIST, AnyBytes(wrong, 1))
+    return in_runs(wrong, called, AnyBytes(wrong, 1))
+
+
+def in_records(library, name, mistake, called):
+    wrong = with_mistakes(library, {name: mistake})
+    return in_runs(wrong, called, records=Records(wrong, 1))
+
+
+def in_runs(wrong, called, any_bytes=None, records=None):
+    """Found and called right, whatever list shows it."""
+    tally, failure = runs(wrong, 1, EVENTS, LIST, any_bytes, records)
     found = failure is not None and failure.difference.what.startswith(called)
-    return f"found after {len(failure.events)} events" if found else None
+    return f"found after {tally.events} events" if found else None
 
 
 def in_two_runs(library, name, mistake, called):
@@ -161,6 +196,7 @@ def selftest(library):
     ways = {
         in_lists: MISTAKES,
         in_any_bytes: WITH_ANY_BYTES,
+        in_records: WITH_RECORDS,
         in_two_runs: WITH_TWO_RUNS,
         in_wrong_parting: WRONG_PARTINGS,
     }

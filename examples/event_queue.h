@@ -9,6 +9,8 @@
  *
  * Put every event with a clock through the queue, and read its clock there. A call past the queue carries a later
  * clock than the events that still wait, and these then get FP_CLOCK_WENT_BACK.
+ *
+ * A test build that records does so where events are taken out (recorder.h): in the order in which they are served.
  */
 #ifndef EVENT_QUEUE_H
 #define EVENT_QUEUE_H

@@ -1,25 +1,14 @@
 /* Tests the event queue: its boundaries, and a pairing through it with the real library, whole and with a loss. Exit 1 if
  * a check failed. The salts and the nonce are fixed, so that the responses can be compared; a product draws them.
  */
+#include "check.h"
 #include "event_queue.h"
 #include "phone.h"
 
 #include <limits.h>
-#include <stdio.h>
 #include <string.h>
 
 enum { ROOM = EVENT_QUEUE_SLOTS - 1, NOTHING = -1, MARKER = -2 };
-
-static int failures;
-
-static void check(bool holds, const char *what)
-{
-    printf("%s %s\n", holds ? "ok    " : "FAILED", what);
-    if (!holds) {
-        fprintf(stderr, "event_queue_test: %s\n", what);
-        failures++;
-    }
-}
 
 /* ---- the queue alone: events are told apart by their clocks */
 
@@ -387,6 +376,5 @@ int main(void)
     marker_in_its_place();
     marker_sent_at_once();
     marker_everywhere();
-    printf("%d checks failed\n", failures);
-    return failures == 0 ? 0 : 1;
+    return all_checked();
 }

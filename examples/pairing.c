@@ -1,11 +1,14 @@
 /* A provider in C:
  *
- *     pairing LIST NAME
+ *     pairing LIST NAME RECORDING ANSWERS
  *
  * It powers on from the list and the name in these two files (first boot if there are none), tells a phone its name, gets
  * a new one, is paired by that phone, stores its account key, is switched off and on again, serves the owner, meets a
  * loss of events and prints its advertisement. Every answer is printed with what it means. Exit 1 if one is not the answer
  * expected, 2 if the program was called wrongly.
+ *
+ * All events are recorded, and RECORDING is written at the end. ANSWERS gets the lines that fp_replay has to print of it. A
+ * product does not record.
  *
  * Salts and nonces are random, so the responses and packets are others in every run. event_queue_test.c has fixed ones and
  * compares.
@@ -13,6 +16,7 @@
 #define _DEFAULT_SOURCE /* explicit_bzero */
 
 #include "phone.h"
+#include "recorder.h"
 #include "saved_file.h"
 
 #include <errno.h>
@@ -74,9 +78,9 @@ static const char *meaning(uint8_t answer)
     }
 }
 
-static void tell(const char *event, uint8_t answer)
+static void tell(const char *what, uint8_t answer)
 {
-    printf("%-24s answer %u: %s\n", event, answer, meaning(answer));
+    printf("%-24s answer %u: %s\n", what, answer, meaning(answer));
 }
 
 static void print_bytes(const char *what, const uint8_t *bytes, size_t length)
@@ -112,20 +116,51 @@ static void save_name(const fp_name *name)
     saved_name = *name;
 }
 
-/* What follows every event: its answer is told, the next device replaces the old one, and the list and the name are saved
- * if they are not what was saved last. Gives back the reply. */
-static fp_reply served(const char *event, fp_outcome outcome, uint8_t expected)
+/* ---- the recording */
+
+static uint8_t store[4096];
+static recorder recording;
+static FILE *answers;
+static unsigned events;
+
+static void recorded(fp_report report)
+{
+    if (!recorder_wrote(&recording, report))
+        stop("recording", "the store is too short");
+}
+
+static void save_recording(const char *path)
+{
+    if (!saved_file_save(path, store, recording.used) || fclose(answers) != 0)
+        stop(path, strerror(errno));
+    printf("recording saved, %zu bytes\n", recording.used);
+    explicit_bzero(store, sizeof store);
+}
+
+/* ---- what follows every event */
+
+/* Its answer is told, and the next device replaces the old one. `kind` is the name that fp_replay prints. */
+static fp_reply answered(const char *kind, fp_outcome outcome)
 {
     fp_reply reply = outcome.reply;
-    tell(event, reply.answer);
+    tell(kind, reply.answer);
     device = outcome.next;
     explicit_bzero(&outcome, sizeof outcome); /* a copy of every key */
+    fprintf(answers, "%u %s %u %u\n", ++events, kind, reply.answer, device.stored.bytes[3]);
+    return reply;
+}
+
+/* And the list and the name are saved if they are not what was saved last. Gives back the reply. */
+static fp_reply served(const char *kind, fp_outcome outcome, uint8_t expected)
+{
+    fp_reply reply = answered(kind, outcome);
+    explicit_bzero(&outcome, sizeof outcome);
     if (memcmp(&device.stored, &saved_list, sizeof saved_list) != 0)
         save_list(&device.stored);
     if (memcmp(&device.name, &saved_name, sizeof saved_name) != 0)
         save_name(&device.name);
     if (reply.answer != expected)
-        stop(event, "another answer was expected");
+        stop(kind, "another answer was expected");
     return reply;
 }
 
@@ -153,36 +188,40 @@ static saved loaded(const char *what, const char *path, const uint8_t *factory, 
     return bytes;
 }
 
-static uint8_t powered_on(const char *event, const saved *list, const saved *name)
+static uint8_t powered_on(const saved *list, const saved *name)
 {
     fp_start start = START;
     draw(start.salt, sizeof start.salt);
-    fp_outcome outcome = fp_power_on(fp_off(), list->bytes, list->length, name->bytes, name->length, start);
-    uint8_t answer = outcome.reply.answer;
-    device = outcome.next;
-    explicit_bzero(&outcome, sizeof outcome);
-    tell(event, answer);
-    return answer;
+    recorded(fp_record_power_on(list->bytes, list->length, name->bytes, name->length, start, recorder_place(&recording),
+                                recorder_room(&recording)));
+    return answered("power-on", fp_power_on(fp_off(), list->bytes, list->length, name->bytes, name->length, start)).answer;
 }
 
-static void power_on(void)
+/* The list is damaged, or the name, or both. A product tries second copies first. The owners pair again only if it was the
+ * list: the name is left out before it. */
+static uint8_t powered_on_without(const saved *list, const saved *name)
 {
     static const saved no_name = {0};
     saved no_keys = {.length = sizeof EMPTY_LIST};
     memcpy(no_keys.bytes, EMPTY_LIST, sizeof EMPTY_LIST);
+    printf("without the name\n");
+    if (powered_on(list, &no_name) == FP_TAKEN)
+        return FP_TAKEN;
+    printf("without the keys\n");
+    if (powered_on(&no_keys, name) == FP_TAKEN)
+        return FP_TAKEN;
+    printf("without both\n");
+    return powered_on(&no_keys, &no_name);
+}
+
+static void power_on(void)
+{
     saved list = loaded("list", list_path, EMPTY_LIST, sizeof EMPTY_LIST);
     saved name = loaded("name", name_path, MAKERS_NAME, sizeof MAKERS_NAME);
-    uint8_t answer = powered_on("power-on", &list, &name);
-
-    /* The list is damaged, or the name, or both. A product tries second copies first. The owners pair again only if it was
-     * the list: the name is left out before it. */
+    uint8_t answer = powered_on(&list, &name);
     bool damaged = answer == FP_LIST_MALFORMED;
-    if (answer == FP_LIST_MALFORMED)
-        answer = powered_on("power-on without name", &list, &no_name);
-    if (answer == FP_LIST_MALFORMED)
-        answer = powered_on("power-on without keys", &no_keys, &name);
-    if (answer == FP_LIST_MALFORMED)
-        answer = powered_on("power-on without both", &no_keys, &no_name);
+    if (damaged)
+        answer = powered_on_without(&list, &name);
     explicit_bzero(&list, sizeof list);
     if (answer != FP_TAKEN)
         stop("power-on", meaning(answer));
@@ -194,15 +233,34 @@ static void power_on(void)
     saved_name = device.name;
 }
 
-/* ---- events */
+/* ---- events: each is recorded and then served, with the same arguments */
 
-static void key_based_write(const char *event, uint64_t clock, const uint8_t *request, size_t length,
-                            fp_element element)
+static void overflow(void)
+{
+    recorded(fp_record_overflow(recorder_place(&recording), recorder_room(&recording)));
+    served("marker", fp_overflow(device), FP_TAKEN);
+}
+
+static void pairing_mode(uint64_t clock, uint8_t on)
+{
+    recorded(fp_record_pairing_mode(on, clock, recorder_place(&recording), recorder_room(&recording)));
+    served("pairing-mode", fp_pairing_mode(device, on, clock), FP_TAKEN);
+}
+
+static void link_up(uint64_t clock)
+{
+    recorded(fp_record_link_up(LINK, clock, recorder_place(&recording), recorder_room(&recording)));
+    served("link-up", fp_link_up(device, LINK, clock), FP_TAKEN);
+}
+
+static void key_based_write(uint64_t clock, const uint8_t *request, size_t length, fp_element element)
 {
     uint8_t salt[9], nonce[8], out[FP_RESPONSE_SIZE], packet[FP_PACKET_MAX];
     draw(salt, sizeof salt);
     draw(nonce, sizeof nonce);
-    fp_reply reply = served(event,
+    recorded(fp_record_key_based_write(LINK, clock, request, length, element, salt, nonce, sizeof out, sizeof packet,
+                                       recorder_place(&recording), recorder_room(&recording)));
+    fp_reply reply = served("key-based-write",
                             fp_key_based_write(device, LINK, clock, request, length, element, salt, nonce, out,
                                                sizeof out, packet, sizeof packet),
                             FP_TAKEN);
@@ -211,51 +269,84 @@ static void key_based_write(const char *event, uint64_t clock, const uint8_t *re
     /* The phone asked for the name: a second notification, on the Additional Data characteristic. */
     print_bytes("  packet with the name", packet, reply.packet_length);
     if (reply.packet_length != 16 + device.name.length)
-        stop(event, "a packet with the whole name was expected");
+        stop("key-based-write", "a packet with the whole name was expected");
 }
 
 static void name_write(uint64_t clock, uint8_t expected)
 {
-    served("name write", fp_name_write(device, LINK, clock, NAME_WRITE, sizeof NAME_WRITE), expected);
+    recorded(fp_record_name_write(LINK, clock, NAME_WRITE, sizeof NAME_WRITE, recorder_place(&recording),
+                                  recorder_room(&recording)));
+    served("name-write", fp_name_write(device, LINK, clock, NAME_WRITE, sizeof NAME_WRITE), expected);
     if (device.name.length != sizeof PHONES_NAME || memcmp(device.name.bytes, PHONES_NAME, sizeof PHONES_NAME) != 0)
-        stop("name write", "the phone's name was expected");
+        stop("name-write", "the phone's name was expected");
+}
+
+static void pairing_started(uint64_t clock, uint8_t expected)
+{
+    recorded(fp_record_pairing_started(LINK, clock, DISPLAY_YES_NO, recorder_place(&recording),
+                                       recorder_room(&recording)));
+    served("pairing-started", fp_pairing_started(device, LINK, clock, DISPLAY_YES_NO), expected);
+}
+
+static void confirmation_needed(uint64_t clock)
+{
+    recorded(fp_record_confirmation_needed(LINK, clock, PASSKEY, recorder_place(&recording),
+                                           recorder_room(&recording)));
+    served("confirmation-needed", fp_confirmation_needed(device, LINK, clock, PASSKEY), FP_TAKEN);
 }
 
 static void passkey_write(uint64_t clock)
 {
     uint8_t salt[12], out[FP_RESPONSE_SIZE];
     draw(salt, sizeof salt);
-    fp_reply reply = served("passkey write",
+    recorded(fp_record_passkey_write(LINK, clock, PASSKEY_BLOCK, sizeof PASSKEY_BLOCK, salt, sizeof out,
+                                     recorder_place(&recording), recorder_room(&recording)));
+    fp_reply reply = served("passkey-write",
                             fp_passkey_write(device, LINK, clock, PASSKEY_BLOCK, sizeof PASSKEY_BLOCK, salt, out,
                                              sizeof out),
                             FP_TAKEN);
     print_bytes("  response", out, sizeof out);
     if (reply.confirm != FP_CONFIRM_YES)
-        stop("passkey write", "the passkeys are not the same: the radio says no");
+        stop("passkey-write", "the passkeys are not the same: the radio says no");
 }
+
+static void pairing_ended(uint64_t clock)
+{
+    recorded(fp_record_pairing_ended(LINK, clock, 1, recorder_place(&recording), recorder_room(&recording)));
+    served("pairing-ended", fp_pairing_ended(device, LINK, clock, 1), FP_TAKEN);
+}
+
+static void account_key_write(uint64_t clock)
+{
+    recorded(fp_record_account_key_write(LINK, clock, ACCOUNT_KEY_BLOCK, sizeof ACCOUNT_KEY_BLOCK,
+                                         recorder_place(&recording), recorder_room(&recording)));
+    served("account-key-write",
+           fp_account_key_write(device, LINK, clock, ACCOUNT_KEY_BLOCK, sizeof ACCOUNT_KEY_BLOCK), FP_TAKEN);
+}
+
+/* ---- what happens */
 
 static void paired_by_phone(void)
 {
-    served("pairing mode on", fp_pairing_mode(device, 1, 1000), FP_TAKEN);
-    served("link up", fp_link_up(device, LINK, 1100), FP_TAKEN);
-    key_based_write("key-based write", 1200, REQUEST, sizeof REQUEST, ELEMENT);
+    pairing_mode(1000, 1);
+    link_up(1100);
+    key_based_write(1200, REQUEST, sizeof REQUEST, ELEMENT);
     name_write(1250, FP_TAKEN);
-    served("pairing started", fp_pairing_started(device, LINK, 1300, DISPLAY_YES_NO), FP_TAKEN);
-    served("confirmation needed", fp_confirmation_needed(device, LINK, 1400, PASSKEY), FP_TAKEN);
+    pairing_started(1300, FP_TAKEN);
+    confirmation_needed(1400);
     passkey_write(1500);
-    served("pairing ended", fp_pairing_ended(device, LINK, 1600, 1), FP_TAKEN);
-    served("account key write",
-           fp_account_key_write(device, LINK, 1700, ACCOUNT_KEY_BLOCK, sizeof ACCOUNT_KEY_BLOCK), FP_TAKEN);
+    pairing_ended(1600);
+    account_key_write(1700);
 }
 
 /* Events were lost after the owner's request: what begins then is not joined to it. The phone's name was kept. */
 static void events_lost(void)
 {
-    served("link up", fp_link_up(device, LINK, 1000), FP_TAKEN);
-    key_based_write("owner's key-based write", 1100, OWNER_REQUEST, sizeof OWNER_REQUEST, (fp_element){0});
-    served("overflow marker", fp_overflow(device), FP_TAKEN);
+    link_up(1000);
+    key_based_write(1100, OWNER_REQUEST, sizeof OWNER_REQUEST, (fp_element){0});
+    overflow();
     name_write(1150, FP_LINK_IDLE);
-    served("pairing started", fp_pairing_started(device, LINK, 1200, DISPLAY_YES_NO), FP_LINK_IDLE);
+    pairing_started(1200, FP_LINK_IDLE);
 }
 
 /* The filter's bytes depend on the random salt; the others are known. */
@@ -275,12 +366,16 @@ static void advertise(void)
 
 int main(int argc, char **argv)
 {
-    if (argc != 3) {
-        fprintf(stderr, "usage: pairing LIST NAME\n");
+    if (argc != 5) {
+        fprintf(stderr, "usage: pairing LIST NAME RECORDING ANSWERS\n");
         return 2;
     }
     list_path = argv[1];
     name_path = argv[2];
+    recorder_begin(&recording, store, sizeof store);
+    answers = fopen(argv[4], "w");
+    if (answers == NULL)
+        stop(argv[4], strerror(errno));
     power_on();
     paired_by_phone();
 
@@ -291,6 +386,7 @@ int main(int argc, char **argv)
     advertise();
     explicit_bzero(&device, sizeof device);
     explicit_bzero(&saved_list, sizeof saved_list);
+    save_recording(argv[3]);
     printf("every answer was the one expected\n");
     return 0;
 }

@@ -1,4 +1,5 @@
-/* Bytes that last, in a file: the stored list in one, the name in another. In a product this is flash memory. */
+/* Bytes that last, in a file: the stored list in one, the name in another, a recording in a third. In a product this is flash
+ * memory. */
 #ifndef SAVED_FILE_H
 #define SAVED_FILE_H
 

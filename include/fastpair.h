@@ -89,6 +89,27 @@
  * Secrets: an fp_device holds the session keys and the owners' account keys, and an fp_stored the account keys. Wipe every
  * old copy that you leave, with a function that the compiler does not remove (as explicit_bzero). The core does not wipe
  * the stack that its calls used.
+ *
+ * Recording: a test build can write down what it hands to the core, and fp_replay prints later what each event was
+ * answered. docs/RECORDING.md has the layout. Product firmware does not record: a recording holds the owners' keys, the
+ * secret of every pairing and the device's addresses. docs/RECORDING.md says how to handle one. Wipe every copy.
+ *
+ * Record where events are taken out of the queue: each one that is handed to the core, in that order, power-ons and
+ * overflow markers included, and nothing else. The record is written before the event is served or after it, with the same
+ * arguments, the salts and the nonce too:
+ *
+ *     uint8_t record[FP_RECORD_MAX];
+ *     fp_report r = fp_record_link_up(link, clock, record, sizeof record);
+ *     if (r.answer == FP_TAKEN) append r.length bytes of `record` to the recording
+ *     fp_outcome o = fp_link_up(device, link, clock);
+ *
+ * Where the record got 2 or 13, or your own store is full, the event is missing. Put the record of a marker
+ * (fp_record_overflow, 4 bytes) in its place, and keep room for it: else the replay joins what did not stand together.
+ * examples/recorder.c is a recorder that does so.
+ *
+ * Begin at a power-on: before the first one that is taken the replay has no device. If every event from a taken power-on
+ * on is in the recording, a replay by the same build shows the answers that the events got. After a power-on that was
+ * refused serve no events until one is taken, as fp_power_on says: the replay would go on with the device that it has.
  */
 #ifndef FASTPAIR_H
 #define FASTPAIR_H
@@ -98,9 +119,9 @@
 #include <stdint.h>
 
 /* The version of this interface; docs/CHANGES.md says what changed. */
-#define FP_VERSION "4.2.0"
+#define FP_VERSION "4.3.0"
 #define FP_VERSION_MAJOR 4
-#define FP_VERSION_MINOR 2
+#define FP_VERSION_MINOR 3
 #define FP_VERSION_PATCH 0
 
 #ifdef __cplusplus
@@ -111,7 +132,8 @@ extern "C" {
 enum {
     FP_TAKEN = 0,
     FP_UNKNOWN_LINK = 1,        /* link above 7; nothing changes */
-    FP_WRONG_LENGTH = 2,        /* key-based write not 16 or 80 bytes, or name write not 16 to 80; nothing changes */
+    FP_WRONG_LENGTH = 2,        /* key-based write not 16 or 80 bytes, or name write not 16 to 80; nothing changes. Of
+                                   fp_record_..: the record would be longer than FP_RECORD_MAX */
     FP_PASSKEY_TOO_LARGE = 3,   /* our passkey above 999,999; nothing changes */
     FP_CLOCK_WENT_BACK = 4,     /* clock below the stored clock; every link's key is dropped, the clock stays: after one
                                    huge value every event gets this until power-on */
@@ -157,6 +179,9 @@ enum { FP_STORED_LIST_MAX = 84, FP_ADVERTISEMENT_MAX = 18 };
 
 /* the longest name, and the longest packet with a name: a tag of 8 bytes, a nonce of 8, and the name encrypted */
 enum { FP_NAME_MAX = 64, FP_PACKET_MAX = 80 };
+
+/* the longest record of an event: a length field of 2 bytes, and at most 1,024 after it */
+enum { FP_RECORD_MAX = 1026 };
 
 /* ---- types */
 
@@ -263,7 +288,7 @@ typedef struct {
     uint8_t reserved[5];
 } fp_outcome;
 
-/* FP_TAKEN and the number of bytes written, or FP_OUTPUT_TOO_SHORT (or FP_NOT_A_DEVICE) and 0. */
+/* FP_TAKEN and the number of bytes written, or another answer and 0. */
 typedef struct {
     uint64_t length;
     uint8_t answer;
@@ -403,6 +428,70 @@ fp_report fp_advertisement(fp_device device, uint8_t hide, uint8_t *out, size_t 
 
 /* The stored list, for memory that lasts. */
 fp_report fp_stored_list(fp_device device, uint8_t *out, size_t out_length);
+
+/* ---- recording: the record of one event, as docs/RECORDING.md lays it out (see "Recording" above)
+ *
+ * There is one function for each event, with that event's arguments. No device goes in: what it would answer is not asked,
+ * so any link, clock, passkey and length is recorded. `record` is the output, and overlaps no input. The answers:
+ *
+ *     FP_WRONG_LENGTH      the record would have more than 1,024 bytes after its length field: nothing is written
+ *     FP_OUTPUT_TOO_SHORT  else, if `record_length` is less than the whole record: nothing is written
+ *     FP_TAKEN             else. The record stands at the front of `record`, and the bytes behind it stay as they were
+ *
+ * With FP_TAKEN fp_report.length is the whole length of the record, its length field included; else it is 0. An output of
+ * FP_RECORD_MAX bytes is never too short. A GATT write has at most 512 bytes, and so is never too long. */
+
+/* Events were lost: 4 bytes. Also what stands for an event that could not be recorded. */
+fp_report fp_record_overflow(uint8_t *record, size_t record_length);
+
+/* The stored list and the name are recorded as they are handed in, also if they are malformed: FP_WRONG_LENGTH if they have
+ * more than 1,003 bytes together. The record holds every account key. */
+fp_report fp_record_power_on(const uint8_t *stored, size_t stored_length, const uint8_t *name, size_t name_length,
+                             fp_start start, uint8_t *record, size_t record_length);
+
+/* 13 bytes. */
+fp_report fp_record_link_up(uint8_t link, uint64_t clock, uint8_t *record, size_t record_length);
+fp_report fp_record_link_down(uint8_t link, uint64_t clock, uint8_t *record, size_t record_length);
+
+/* 13 bytes. Any number but 0 is on, and is recorded as 1. */
+fp_report fp_record_pairing_mode(uint8_t on, uint64_t clock, uint8_t *record, size_t record_length);
+
+/* 20 bytes. */
+fp_report fp_record_address_rotated(fp_address ble, const uint8_t salt[2], uint64_t clock, uint8_t *record,
+                                    size_t record_length);
+
+/* 12 bytes. */
+fp_report fp_record_factory_reset(uint64_t clock, uint8_t *record, size_t record_length);
+
+/* `out_length` and `packet_length` are the lengths of the outputs that the event is lent; the outputs do not go in. Any
+ * number but 0 in element.accepted is recorded as 1. A rejected point is recorded with 32 zero bytes, whatever
+ * element.secret holds; of an accepted one the record holds the secret. FP_WRONG_LENGTH for a request of more than 947
+ * bytes. */
+fp_report fp_record_key_based_write(uint8_t link, uint64_t clock, const uint8_t *request, size_t request_length,
+                                    fp_element element, const uint8_t salt[9], const uint8_t nonce[8],
+                                    size_t out_length, size_t packet_length, uint8_t *record, size_t record_length);
+
+/* 14 bytes. */
+fp_report fp_record_pairing_started(uint8_t link, uint64_t clock, uint8_t capability, uint8_t *record,
+                                    size_t record_length);
+
+/* 17 bytes. */
+fp_report fp_record_confirmation_needed(uint8_t link, uint64_t clock, uint32_t passkey, uint8_t *record,
+                                        size_t record_length);
+
+/* `out_length` is the length of the output that the event is lent; the output does not go in. FP_WRONG_LENGTH for a block
+ * of more than 993 bytes. */
+fp_report fp_record_passkey_write(uint8_t link, uint64_t clock, const uint8_t *block, size_t block_length,
+                                  const uint8_t salt[12], size_t out_length, uint8_t *record, size_t record_length);
+
+/* 14 bytes. Any number but 0 is a success, and is recorded as 1. */
+fp_report fp_record_pairing_ended(uint8_t link, uint64_t clock, uint8_t success, uint8_t *record, size_t record_length);
+
+/* FP_WRONG_LENGTH for a block or a packet of more than 1,013 bytes. */
+fp_report fp_record_account_key_write(uint8_t link, uint64_t clock, const uint8_t *block, size_t block_length,
+                                      uint8_t *record, size_t record_length);
+fp_report fp_record_name_write(uint8_t link, uint64_t clock, const uint8_t *packet, size_t packet_length,
+                               uint8_t *record, size_t record_length);
 
 #ifdef __cplusplus
 }

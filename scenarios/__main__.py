@@ -3,8 +3,10 @@
 import argparse
 import sys
 
+from differential.build import build_program
 from differential.library import load
-from differential.report import archive
+from differential.replay_program import ReplayProgram
+from differential.report import archive, program
 from differential.setup_error import SetupError
 
 from .fields import TextError
@@ -30,9 +32,9 @@ def sides(options):
     """What makes a fresh side of each, for each text."""
     if options.write or options.without_library:
         return [SecondProgram]
-    library = load()
-    print(archive())
-    return [SecondProgram, lambda: BuiltLibrary(library)]
+    library, replay_program = load(), ReplayProgram(build_program())
+    print(f"{archive()}\n{program()}")
+    return [SecondProgram, lambda: BuiltLibrary(library, replay_program)]
 
 
 def compare(texts, makers):

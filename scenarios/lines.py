@@ -14,6 +14,7 @@ from .names import (
     MODEL,
     NONCE,
     PASSKEY_SALT,
+    RECORD_ROOM,
     REQUEST_SALT,
     ROOM,
     SECRET,
@@ -22,7 +23,7 @@ from .names import (
     lent,
     second_lent,
 )
-from .phone_writes import account_key_data, name_data, passkey_data, request_data
+from .phone_writes import account_key_data, name_data, passkey_data, request_data, resized
 
 
 @dataclass(frozen=True)
@@ -60,18 +61,57 @@ class Repeated:
     times: int
 
 
+@dataclass(frozen=True)
+class NewRecording:
+    """The recording begins anew and is empty."""
+
+
+@dataclass(frozen=True)
+class Recorded:
+    """An event, or bytes as they are, that the recording holds."""
+
+    added: object
+
+
+@dataclass(frozen=True)
+class Lost:
+    """An event that the recording lacks: one marker stands for it and for those lost beside it."""
+
+    event: object
+
+
+@dataclass(frozen=True)
+class RecordAsked:
+    """The record of an event, to be written out."""
+
+    event: object
+    out: bytes
+
+
+# What changes the recording; the result is what the replay then prints more.
+OF_RECORDINGS = (NewRecording, Recorded, Lost)
+
+
 def asked(text):
     """What stands left of the arrow."""
     kind, words = kind_and_fields(text)
-    if kind not in KINDS:
-        raise TextError(f"'{kind}' is no event and no question; its fields stand behind two spaces")
+    if kind in WITH_AN_EVENT:
+        return WITH_AN_EVENT[kind](words)
     fields = Fields(words)
     times = fields.number("times", 1)
-    made = KINDS[kind](fields)
-    fields.check_all_taken()
+    made = made_of(kind, fields)
     if times != 1 and not isinstance(made, events.KINDS):
         raise TextError("only an event can be repeated")
     return made if times == 1 else Repeated(made, times)
+
+
+def made_of(kind, fields):
+    """What a line of this kind asks; it takes all fields."""
+    if kind not in KINDS:
+        raise TextError(f"'{kind}' is no event and no question; its fields stand behind two spaces")
+    made = KINDS[kind](fields)
+    fields.check_all_taken()
+    return made
 
 
 def kind_and_fields(text):
@@ -210,6 +250,44 @@ def name_asked(fields):
     return NameAsked()
 
 
+def new_recording(fields):
+    return NewRecording()
+
+
+def recorded(words):
+    """ "recorded  link up, link 0, clock 0", or "recorded  bytes 00020101" """
+    if not words.startswith("bytes "):
+        return Recorded(event_of(*kind_first(words)))
+    fields = Fields(words)
+    data = fields.bytes("bytes")
+    data = resized(fields, data, len(data))
+    fields.check_all_taken()
+    return Recorded(data)
+
+
+def lost(words):
+    return Lost(event_of(*kind_first(words)))
+
+
+def record_asked(words):
+    kind, fields = kind_first(words)
+    out = lent(fields.number("room", RECORD_ROOM))
+    return RecordAsked(event_of(kind, fields), out)
+
+
+def kind_first(words):
+    """The kind of an event, and its fields behind a comma."""
+    kind, _, rest = words.partition(", ")
+    return kind, Fields(rest)
+
+
+def event_of(kind, fields):
+    made = made_of(kind, fields)
+    if not isinstance(made, events.KINDS):
+        raise TextError(f"'{kind}' is no event, and has no record")
+    return made
+
+
 KINDS = {
     "power-on": power_on,
     "overflow marker": overflow_marker,
@@ -230,4 +308,7 @@ KINDS = {
     "stored list": stored_list_asked,
     "payload": payload_asked,
     "name": name_asked,
+    "new recording": new_recording,
 }
+# Their first field is the kind of an event.
+WITH_AN_EVENT = {"recorded": recorded, "lost": lost, "record": record_asked}

@@ -34,6 +34,7 @@ SEEKER_NONCE = bytes(range(0x21, 0x29))
 
 # The room of a lent output, if its line does not say otherwise: more than anything that is written.
 ROOM = 90
+RECORD_ROOM = 1_040
 
 
 def account_key(digit):

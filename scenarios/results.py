@@ -3,21 +3,24 @@
 from dataclasses import dataclass
 
 from reference.rules.events import Reply, lent_outputs
+from reference.rules.recording import field_sizes, recorded_values
 
 from .fields import TextError, as_bytes, as_name, as_number
-from .lines import NameAsked, PayloadAsked, Repeated, StoredListAsked
+from .lines import OF_RECORDINGS, NameAsked, PayloadAsked, RecordAsked, Repeated, StoredListAsked
 
 REPLIES = {True: "yes", False: "no"}
 NO_NAME = "no name"
+NO_LINE = "no line"
 PARTS = {"tried", "bonding", "reply", "writes", "packet"}
 
 
 @dataclass(frozen=True)
 class Result:
-    """The reply, with the whole lent outputs afterwards, and how many bytes of the first were written."""
+    """The reply, with the whole lent outputs afterwards, how many bytes of the first were written, and lines."""
 
     reply: Reply
     written: int = 0
+    lines: tuple = ()
 
 
 def in_words(result, asked):
@@ -25,6 +28,8 @@ def in_words(result, asked):
     reply = result.reply
     if isinstance(asked, NameAsked):
         return name_in_words(reply.out)
+    if isinstance(asked, OF_RECORDINGS):
+        return ", ".join(result.lines) or NO_LINE
     words = [str(reply.answer)]
     words += [f"tried {reply.tried}"] if reply.tried else []
     words += [f"bonding {reply.bond.hex()}"] if reply.bond else []
@@ -51,6 +56,8 @@ def from_words(text, asked):
     """The result that the words say, for this event or question."""
     if isinstance(asked, NameAsked):
         return Result(Reply(0, out=b"" if text == NO_NAME else as_name(text)))
+    if isinstance(asked, OF_RECORDINGS):
+        return Result(Reply(0), lines=() if text == NO_LINE else tuple(text.split(", ")))
     answer, *rest = text.split(", ")
     values = dict(word.split(" ", 1) for word in rest if " " in word)
     if len(values) != len(rest) or set(values) - PARTS:
@@ -70,12 +77,15 @@ def from_words(text, asked):
 
 
 def grouped(data, asked):
-    """Hexadecimal with a space between the parts of a stored list or a payload."""
+    """Hexadecimal with a space between the parts of a stored list, a payload or a record."""
     if isinstance(asked, StoredListAsked):
         return parts(data, (2, 1, 1, *[16] * 5))
     if isinstance(asked, PayloadAsked):
         # length, service data type and UUID, then 00 and header, filter, 21 and salt
         return parts(data, (1, 3, 2, len(data) - 9, 1, 2) if len(data) > 9 else (1, 3, 3))
+    if isinstance(asked, RecordAsked):
+        # length, version, kind, fields
+        return parts(data, (2, 1, 1, *field_sizes(asked.event, recorded_values(asked.event))))
     return data.hex()
 
 

@@ -14,7 +14,7 @@ from scenarios.texts import read_all
 from .copies import wrong_rules
 from .edits import UNCHANGED, all_edits
 from .edits.edit import Edit, EditError
-from .find import by_random_events, by_scenarios, random_runs
+from .find import OF_RECORDINGS, by_random_events, by_random_recordings, by_scenarios, random_recordings, random_runs
 
 # Events of a run, as in the differential test.
 LENGTH = 500
@@ -53,23 +53,31 @@ def arguments():
     return parser.parse_args()
 
 
-def look(edit, number, folder, texts, runs):
+def look(edit, number, folder, texts, runs, recordings):
     """What finds this wrong rule."""
     rules = wrong_rules(edit, folder, number)
     try:
-        return Found(edit, by_scenarios(rules, texts, edit.file), by_random_events(rules, runs))
+        return Found(edit, by_scenarios(rules, texts, edit.file), by_random(edit, rules, runs, recordings))
     except Exception as error:
         raise EditError(f"{edit.file}: {edit.name}: a wrong rule has to answer, and raises {error!r}") from error
 
 
-def look_for_all(texts, runs, options):
+def by_random(edit, rules, runs, recordings):
+    """After how many random events it is found; nothing else than recordings shows some of them."""
+    if edit.file in OF_RECORDINGS:
+        return by_random_recordings(rules, runs, recordings)
+    return by_random_events(rules, runs)
+
+
+def look_for_all(texts, runs, recordings, options):
     """What finds each wrong rule; nothing may find a copy without one."""
     found, random = [], not options.scenarios_only
     with tempfile.TemporaryDirectory() as folder:
-        if not look(UNCHANGED, "none", folder, texts, runs).by_neither():
-            raise EditError("the unchanged copy differs from the right rules or from the texts")
+        for number, edit in enumerate(UNCHANGED):
+            if not look(edit, f"none_{number}", folder, texts, runs, recordings).by_neither():
+                raise EditError("the unchanged copy differs from the right rules or from the texts")
         for number, edit in enumerate(all_edits()):
-            found.append(look(edit, number, folder, texts, runs))
+            found.append(look(edit, number, folder, texts, runs, recordings))
             if not options.missed or found[-1].missed(random):
                 print(found[-1].words(random), flush=True)
     return found
@@ -89,7 +97,8 @@ def main():
     """The exit code: 1 if a wrong rule was found by neither."""
     options, begin = arguments(), time.perf_counter()
     runs = [] if options.scenarios_only else random_runs(options.seed, options.events, LENGTH)
-    found = look_for_all(read_all([]), runs, options)
+    recordings = random_recordings(options.seed, len(runs))
+    found = look_for_all(read_all([]), runs, recordings, options)
     report(found, options, time.perf_counter() - begin)
     return 1 if any(one.by_neither() for one in found) else 0
 

@@ -7,7 +7,7 @@ import sys
 from functools import cache
 
 import reference.rules
-from scenarios.sides import Rules
+from scenarios.sides import MODULES, rules_of
 
 RIGHT = pathlib.Path(reference.rules.__file__).parent
 IMPORTS = re.compile(r"^from \.(\w*) import (.*)", re.MULTILINE)
@@ -52,12 +52,7 @@ def imported(package):
     sys.path.insert(0, str(package.parent))
     importlib.invalidate_caches()
     try:
-        model, stored_list, advertising, lent_output = (
-            importlib.import_module(f"{package.name}.{module}")
-            for module in ("model", "stored_list", "advertising", "lent_output")
-        )
+        modules = [importlib.import_module(f"{package.name}.{module}") for module in MODULES]
     finally:
         sys.path.remove(str(package.parent))
-    return Rules(
-        model.step, stored_list.stored_list, advertising.advertisement, lent_output.put_or_refuse
-    )
+    return rules_of(*modules)

@@ -1,6 +1,8 @@
-"""Whether a wrong rule is found: by the scenarios, and by random events beside the right rules."""
+"""Whether a wrong rule is found: by the scenarios, and by random events and recordings beside the right rules."""
 
+from differential.records import Records
 from reference.generator.generate import Generator
+from reference.generator.recordings import of_a_run
 from scenarios.names import lent
 from scenarios.run import first_difference
 from scenarios.sides import RIGHT_RULES, SecondProgram
@@ -28,7 +30,12 @@ FIRST = {
     "stored_list": ("malformed_lists", "stored_lists"),
     "advertising": ("payloads",),
     "lent_output": ("stored_lists", "payloads"),
+    "record_layout": ("records", "recording_bad_records"),
+    "recording": ("records", "recording_bad_records", "recording_cut_end", "recording_lengths"),
+    "replay": ("recording_before_power_on", "recording_refused_power_on", "recording_lost_stretch"),
 }
+# Their wrong rules show in records and replays, and in no reply.
+OF_RECORDINGS = ("record_layout", "recording", "replay")
 
 
 def by_scenarios(rules, texts, file):
@@ -63,6 +70,38 @@ def by_random_events(rules, runs):
             count += 1
             device, shown = step_shown(rules, device, event)
             if shown != expected:
+                return count
+    return None
+
+
+class Writer:
+    """The writer of some rules, in the place of the library's."""
+
+    def __init__(self, rules):
+        self.rules = rules
+
+    def record(self, event, out, lengths):
+        answer, after = self.rules.write_record(event, out, lengths)
+        return answer, 0 if answer else 2 + int.from_bytes(after[:2], "big"), after
+
+
+def random_recordings(seed, runs):
+    """The recordings of each run, each with the lines of the right rules."""
+    made = (of_a_run(f"{seed}.{run}") for run in range(runs))
+    return [[(recording, RIGHT_RULES.replay(recording)) for recording in recordings] for recordings in made]
+
+
+def by_random_recordings(rules, runs, recordings):
+    """After how many events the wrong rules write another record, or show another line; None if they never do."""
+    records, count = Records(Writer(rules), 0), 0
+    for run, recorded in zip(runs, recordings):
+        for event, _ in run:
+            count += 1
+            if records.check(event):
+                return count
+        for recording, lines in recorded:
+            count += len(lines)
+            if rules.replay(recording) != lines:
                 return count
     return None
 

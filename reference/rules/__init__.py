@@ -1,1 +1,1 @@
-"""Document 01, with requests (i) and (ii) of document 02, in Python: a device, its events and the answers."""
+"""Document 01, with requests (i) to (iii) of document 02, in Python: a device, its events, the answers, recordings."""

@@ -30,11 +30,17 @@ class Texts(unittest.TestCase):
         self.path.write_text(content)
         return read(self.path)
 
-
-class Comparing(Texts):
     def difference(self, content):
         return first_difference(self.text(content), SecondProgram())
 
+    def error(self, line):
+        """What is said of a line that can't be read."""
+        with self.assertRaises(TextError) as caught:
+            self.text("# A comment.\n" + line)
+        return str(caught.exception).partition(": ")[2]
+
+
+class Comparing(Texts):
     def test_right(self):
         self.assertIsNone(self.difference(RIGHT))
 
@@ -118,11 +124,6 @@ class Comparing(Texts):
 
 
 class Errors(Texts):
-    def error(self, line):
-        with self.assertRaises(TextError) as caught:
-            self.text("# A comment.\n" + line)
-        return str(caught.exception).partition(": ")[2]
-
     def test_in_words(self):
         self.assertIn("'link upp' is no event", self.error("link upp  link 0, clock 0"))
         self.assertIn("'lnk 0' is no field", self.error("link up  lnk 0, clock 0"))

@@ -7,6 +7,7 @@ Left out, because no events can tell them from the right rules:
 - 5 is given from a count of ten on: the count is never above ten;
 - our passkey is kept when a link has left confirming, and the moment of a stage without timer: nothing reads them;
 - a use leaves the last key of the list where it is: it stands at the end already;
+- a length of 0 or 1, or kind 0, is read as a marker record: it is shown as a marker and taken as one in any case;
 - a row of the UTF-8 table gets a first byte whose characters are in another row, or are read by an earlier one (`utf8.py`).
 """
 
@@ -23,6 +24,9 @@ from . import (
     name,
     name_packet,
     pairing,
+    record_layout,
+    recording,
+    replay,
     stored_list,
     utf8,
 )
@@ -43,10 +47,16 @@ MODULES = (
     advertising,
     lent_output,
     aes,
+    record_layout,
+    recording,
+    replay,
 )
 
-# A copy with no wrong rule, which nothing may find; every other file uses this one.
-UNCHANGED = Edit("device", "no wrong rule", "LINKS = 8", "LINKS = 8")
+# Copies with no wrong rule, which nothing may find; every other file uses one of these two.
+UNCHANGED = (
+    Edit("device", "no wrong rule", "LINKS = 8", "LINKS = 8"),
+    Edit("record_layout", "no wrong rule", "BY_KIND =", "BY_KIND ="),
+)
 
 
 def all_edits():
@@ -56,3 +66,8 @@ def all_edits():
         for module in MODULES
         for name, right, wrong in module.EDITS
     ]
+
+
+def of_files(*files):
+    """The wrong rules of some files."""
+    return [edit for edit in all_edits() if edit.file in files]

@@ -1,6 +1,5 @@
 -- What a call from C gives back: the step of provider's rules on the device handed in, or a refusal where that is none.
 -- Assumes nothing.
-use mathlib.Core.Bool.{not}
 use mathlib.Core.List.{List}
 use Prim.Native.Nat.{ℕ}
 use lib.Dec.{eqb}
@@ -9,13 +8,11 @@ use Rattle.laws.specs.Choice.{if_then_else_}
 use Rattle.advertising.specs.declared.Prompt.{Prompt}
 use Rattle.advertising.specs.declared.Prompt.the-variants.{Show, Hide}
 use Rattle.basics.specs.Output.{reportOf, placed}
-use Rattle.capi.specs.declared.FpElement.{FpElement}
 use Rattle.packed.specs.Packed.{isDevice, deviceOf, packedOutcome, packedReport}
 use Rattle.packed.specs.declared.FpDevice.{FpDevice}
 use Rattle.packed.specs.declared.FpOutcome.{FpOutcome}
 use Rattle.packed.specs.declared.FpReport.{FpReport}
 use Rattle.key_based.specs.Request.{noBond}
-use Rattle.key_based.specs.declared.Element.{Element}
 use Rattle.provider.specs.Rules.Event.{Event, lent, step}
 use Rattle.provider.specs.declared.Device.{Device}
 
@@ -51,9 +48,6 @@ unfoldable pub writtenTo : FpDevice → (Device → List ℕ) → List ℕ → L
 writtenTo f text out = if isDevice f then placed (text (deviceOf f)) out else out
 
 -- ---- what C hands in beside the device
-
-abbrev pub elementOf : FpElement → Element
-elementOf e = record { accepted = not (eqb (e .accepted) 0); secret = e .secret }
 
 abbrev pub promptOf : ℕ → Prompt
 promptOf hide = if eqb hide 0 then Show else Hide

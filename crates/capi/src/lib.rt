@@ -12,13 +12,6 @@ use packed::FpReport;
 ghost use mathlib.Core.Path.{_≡_};
 ghost use Rattle.capi.specs.Calls as calls;
 
-// What the secure element made of the public key in an 80-byte request; `accepted` is 0 for a rejected point.
-#[repr(C)]
-pub struct FpElement {
-    pub accepted: u8,
-    pub secret: [u8; 32],
-}
-
 // The answer to bytes that are not served, none of document 01's numbers.
 const NOT_A_DEVICE: u8 = 255;
 

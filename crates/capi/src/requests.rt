@@ -1,15 +1,15 @@
 // The key-based write, for C.
-use crate::FpElement;
 use basics::Link;
 use basics::Moment;
-use key_based::Element;
 use packed::FpDevice;
+use packed::FpElement;
 use packed::FpOutcome;
 use packed::pack;
 use packed::unpack;
 ghost use mathlib.Core.List.{[], _∷_};
 ghost use mathlib.Core.Path.{_≡_};
-ghost use Rattle.capi.specs.Calls.{elementOf, lentBack, served};
+ghost use Rattle.capi.specs.Calls.{lentBack, served};
+ghost use Rattle.packed.specs.Packed.{elementOf};
 ghost use Rattle.provider.specs.Rules.Event.{OnLink, KeyBasedWrite};
 
 #[no_mangle]
@@ -32,7 +32,7 @@ pub extern "C" fn fp_key_based_write(
         return crate::returned(device);
     }
     let d = from.device;
-    let point = read_element(element);
+    let point = unpack::element(element);
     let outcome = d.key_based_write(
         Link(link),
         Moment(clock),
@@ -44,14 +44,4 @@ pub extern "C" fn fp_key_based_write(
         packet,
     );
     pack::pack_outcome(outcome)
-}
-
-fn read_element(element: FpElement) -> Element
-    ensures { λ r. ⌜ r ≡ elementOf element ⌝ }
-{
-    let secret = element.secret;
-    Element {
-        accepted: element.accepted != 0,
-        secret: secret,
-    }
 }

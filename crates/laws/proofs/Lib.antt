@@ -8,6 +8,7 @@ pub mod Folds
 pub mod Front
 pub mod Lists
 pub mod Loops
+pub mod Numbers
 pub mod Or
 pub mod Padded
 pub mod Parts

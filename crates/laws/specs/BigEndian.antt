@@ -1,12 +1,18 @@
 -- Numbers and their bytes, the most significant byte first.
 -- Assumes nothing.
 use mathlib.Core.List.{List, [], _∷_}
+use lib.ListN.{length}
 use Prim.Native.Nat.{ℕ, zero, suc, _+_, _*_, _/_, _%_, _^_}
 
 -- the n lowest bytes of x
 abbrev pub bytes : ℕ → ℕ → List ℕ
 bytes zero x = []
 bytes (suc n) x = x / 2 ^ (n * 8) % 2 ^ 8 ∷ bytes n x
+
+-- the number that bytes stand for
+abbrev pub number : List ℕ → ℕ
+number [] = 0
+number (b ∷ bs) = b * 2 ^ (length bs * 8) + number bs
 
 -- the number that two bytes stand for
 abbrev pub number2 : ℕ → ℕ → ℕ

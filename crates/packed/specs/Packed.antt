@@ -1,6 +1,6 @@
 -- A device in plain numbers, as C holds it, and how it is read back.
 -- Assumes nothing.
-use mathlib.Core.Bool.{Bool, true, false}
+use mathlib.Core.Bool.{Bool, true, false, not}
 use mathlib.Core.List.{List, [], _∷_}
 use Prim.Native.Nat.{ℕ}
 use lib.Dec.{leb, eqb}
@@ -15,7 +15,9 @@ use Rattle.account_keys.specs.declared.ListForm.{ListForm}
 use Rattle.account_keys.specs.declared.ListForm.the-variants.{WellFormed, Malformed}
 use Rattle.account_keys.specs.declared.Reading.{Reading}
 use Rattle.basics.specs.declared.Report.{Report}
+use Rattle.key_based.specs.declared.Element.{Element}
 use Rattle.packed.specs.declared.FpDevice.{FpDevice}
+use Rattle.packed.specs.declared.FpElement.{FpElement}
 use Rattle.packed.specs.declared.FpOutcome.{FpOutcome}
 use Rattle.packed.specs.declared.FpReply.{FpReply}
 use Rattle.packed.specs.declared.FpReport.{FpReport}
@@ -166,3 +168,7 @@ packedOutcome o = record { next = packed (o .next); reply = packedReply (o .repl
 
 abbrev pub packedReport : Report → FpReport
 packedReport r = record { length = r .length; answer = answerNumber (r .answer); reserved = replicate 7 0 }
+
+-- what the secure element made of a point; 0 is a rejected one
+abbrev pub elementOf : FpElement → Element
+elementOf e = record { accepted = not (eqb (e .accepted) 0); secret = e .secret }

@@ -74,6 +74,13 @@ pub struct FpReport {
     pub reserved: [u8; 7],
 }
 
+// What the secure element made of the public key in an 80-byte request; `accepted` is 0 for a rejected point.
+#[repr(C)]
+pub struct FpElement {
+    pub accepted: u8,
+    pub secret: [u8; 32],
+}
+
 // What was handed in, read as a device; `device` is `off` where the bytes are not served.
 pub struct Unpacked {
     pub known: bool,

@@ -1,5 +1,6 @@
 // Any bytes that C hands in, read as a device.
 use crate::FpDevice;
+use crate::FpElement;
 use crate::FpSession;
 use crate::FpStored;
 use crate::Unpacked;
@@ -7,6 +8,7 @@ use account_keys::AccountKeys;
 use account_keys::ListForm;
 use account_keys::Reading;
 use account_keys::STORED_LIST_MAX;
+use key_based::Element;
 use names::Name;
 use provider::Beacon;
 use provider::Device;
@@ -187,5 +189,16 @@ fn held_in(from: FpSession, stage: Stage) -> Session
         key: key,
         since: since,
         passkey: from.passkey,
+    }
+}
+
+// What the secure element made of a point.
+pub fn element(from: FpElement) -> Element
+    ensures { λ r. ⌜ r ≡ spec.elementOf from ⌝ }
+{
+    let secret = from.secret;
+    Element {
+        accepted: from.accepted != 0,
+        secret: secret,
     }
 }

@@ -2,7 +2,7 @@
 use mathlib.Core.Path.{ap, _∙_}
 use borrow.Author.Tests.{not-true, not-false}
 use Rattle.capi.proofs.Laws.{read-valid, next-valid, served-known, served-unknown, lent-known, lent-unknown}
-use Rattle.capi.specs.Calls.{elementOf}
+use Rattle.packed.specs.Packed.{elementOf}
 use Rattle.provider.specs.Rules.Event.{OnLink, KeyBasedWrite, step}
 use borrow.Author.Needs.{needs}
 use Rattle.capi.proofs.requests.fp_key_based_write.Statement.{statement}
@@ -26,16 +26,16 @@ returns c =
 
 key-based-write-requires : tie.Need-key-based-write-requires
 key-based-write-requires c κs =
-    let at-read-element = c .before .before .before .before in
-    let at-unpack = at-read-element .before .before .before .before in
+    let at-element = c .before .before .before .before in
+    let at-unpack = at-element .before .before .before .before in
     let start = at-unpack .before .before .before .before in
     read-valid (start .args .device) (at-unpack .unpack .ensures)
 
 pack-outcome-requires : tie.Need-pack-outcome-requires
 pack-outcome-requires c κs =
     let at-key-based-write = c .before .before .before .before in
-    let at-read-element = at-key-based-write .before .before .before .before .before in
-    let at-unpack = at-read-element .before .before .before .before in
+    let at-element = at-key-based-write .before .before .before .before .before in
+    let at-unpack = at-element .before .before .before .before in
     let start = at-unpack .before .before .before .before in
     next-valid (start .args .device) (at-unpack .unpack .ensures)
     (OnLink (start .args .link) (start .args .clock)
@@ -45,13 +45,13 @@ pack-outcome-requires c κs =
     (OnLink (start .args .link) (start .args .clock)
     (KeyBasedWrite (start .args .request .now) x (start .args .salt .now) (start .args .nonce .now)
     (start .args .out .now) (start .args .packet .now))) .gives)
-    (at-read-element .read-element .ensures))
+    (at-element .element .ensures))
 
 returns-2 : tie.Need-returns-2
 returns-2 c =
     let at-key-based-write = c .before .before .before .before .before in
-    let at-read-element = at-key-based-write .before .before .before .before .before in
-    let at-if1 = at-read-element .before .before in
+    let at-element = at-key-based-write .before .before .before .before .before in
+    let at-if1 = at-element .before .before in
     let at-unpack = at-if1 .before .before in
     let start = at-unpack .before .before .before .before in (
       served-known (start .args .device) (at-unpack .unpack .ensures)
@@ -63,7 +63,7 @@ returns-2 c =
           (OnLink (start .args .link) (start .args .clock)
           (KeyBasedWrite (start .args .request .now) x (start .args .salt .now) (start .args .nonce .now)
           (start .args .out .now) (start .args .packet .now))) .gives)
-          (at-read-element .read-element .ensures))
+          (at-element .element .ensures))
           (c .pack-outcome .ensures),
       lent-known (start .args .device) (at-unpack .unpack .ensures)
           (OnLink (start .args .link) (start .args .clock)
@@ -74,7 +74,7 @@ returns-2 c =
           (OnLink (start .args .link) (start .args .clock)
           (KeyBasedWrite (start .args .request .now) x (start .args .salt .now) (start .args .nonce .now)
           (start .args .out .now) (start .args .packet .now))) .leaves)
-          (at-read-element .read-element .ensures)),
+          (at-element .element .ensures)),
     )
 
 pub fp-key-based-write-spec : {M : Type 1} → statement M

@@ -1,0 +1,5 @@
+pub mod Carried
+pub mod Decimal
+pub mod Laws
+pub mod Samples
+pub mod Turns

@@ -1,0 +1,4 @@
+pub mod Layout
+pub mod Promises
+pub mod Reading
+pub mod Writing
