@@ -2,7 +2,7 @@
 -- Assumes nothing.
 use mathlib.Core.Bool.{Bool, true, false}
 use mathlib.Core.List.{List, [], _∷_, _++_, append-assoc, append-nil, map, map-append}
-use mathlib.Core.Path.{_≡_, refl, sym, ap, _∙_}
+use mathlib.Core.Path.{_≡_, refl, sym, ap, subst, _∙_}
 use Prim.Native.Nat.{ℕ, zero, suc, _+_, _-_, _/_, _%_, _<_, _≤_, _^_}
 use native.Mathlib.Nat.{not-suc-le-zero}
 use native.Mathlib.Omega.{arith}
@@ -17,7 +17,7 @@ use Rattle.laws.proofs.All.{all-drop}
 use Rattle.provider.specs.Rules.Event.{Event}
 use Rattle.recording.proofs.OneRecord.{record-reads}
 use Rattle.recording.specs.Layout.{body, framed}
-use Rattle.recording.specs.Promises.{IsByte, Recorded, kept, joined, recordsOf, ReadToEnd, ReadOn, RecordsRead}
+use Rattle.recording.specs.Promises.{IsByte, Recorded, kept, joined, recordsOf, ReadToEnd, RestShort, ReadOn, RecordsRead}
 use Rattle.recording.specs.Reading.{Division, noRecord, after, divideWithin, divide, eventIn, eventsOf, events, cutEvents}
 
 -- fuel of the recording's length and more is enough
@@ -95,6 +95,30 @@ to-end (suc f) (a ∷ b ∷ bs) h (p, (q, all)) =
 
 pub read-to-end : ReadToEnd
 read-to-end bs all = to-end (length bs) bs (omega arith) all
+
+-- ---- what is left
+
+short : (f : ℕ) (bs : List ℕ) → length bs ≤ f → All IsByte bs → length (divide bs .rest) ≤ 65536
+unfolding divideWithin
+short zero [] h all = omega arith
+short zero (a ∷ bs) h all = absurd (not-suc-le-zero h)
+short (suc f) [] h all = omega arith
+short (suc f) (a ∷ []) h all = omega arith
+short (suc f) (a ∷ b ∷ bs) h (p, (q, all)) =
+    let n = number2 a b in
+    by-test a b bs p q (ltb (length bs) n) refl
+    (short f (drop n bs) (rw (length-drop n bs) (omega (arith, h))) (all-drop IsByte n bs all))
+  where
+    by-test : (a b : ℕ) (bs : List ℕ) → a < 2 ^ 8 → b < 2 ^ 8 → (t : Bool) → ltb (length bs) (number2 a b) ≡ t
+        → length (divide (drop (number2 a b) bs) .rest) ≤ 65536 → length (divide (a ∷ b ∷ bs) .rest) ≤ 65536
+    by-test a b bs p q true e rest =
+        let cut = ltb-true (length bs) (number2 a b) e in
+        subst (λ (c : Division). length (c .rest) ≤ 65536) (sym (cut-first a b bs cut)) (omega (arith, p, q, cut))
+    by-test a b bs p q false e rest =
+        subst (λ (c : Division). length (c .rest) ≤ 65536) (sym (whole-first a b bs (ltb-false (length bs) (number2 a b) e))) rest
+
+pub rest-short : RestShort
+rest-short bs all = short (length bs) bs (omega arith) all
 
 -- ---- record by record
 

@@ -105,6 +105,10 @@ joined (r ∷ rs) = framed r ++ joined rs
 abbrev pub ReadToEnd : Type 0
 ReadToEnd = (bs : List ℕ) → All IsByte bs → joined (divide bs .whole) ++ divide bs .rest ≡ bs
 
+-- what is left is one record that is not whole: the longest has 65,535 bytes after its length field
+abbrev pub RestShort : Type 0
+RestShort = (bs : List ℕ) → All IsByte bs → length (divide bs .rest) ≤ 65536
+
 -- the records of a list of events, as the writer leaves them
 abbrev pub recordsOf : List Event → List ℕ
 recordsOf [] = []
