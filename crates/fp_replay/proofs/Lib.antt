@@ -1,5 +1,6 @@
 pub mod Carried
 pub mod Decimal
 pub mod Laws
+pub mod Lines
 pub mod Samples
 pub mod Turns

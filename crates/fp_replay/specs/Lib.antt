@@ -1,4 +1,5 @@
 pub mod Ascii
+pub mod Promises
 pub mod Reading
 pub mod Samples
 pub mod Text

@@ -52,7 +52,7 @@ line-for-each recording = line-for-each-from start (events recording)
 
 -- ---- one list of events behind another
 
-lines-on : (r : Replay) (xs ys : List Event) → linesFrom r (xs ++ ys) ≡ linesFrom r xs ++ linesFrom (afterEvents r xs) ys
+pub lines-on : (r : Replay) (xs ys : List Event) → linesFrom r (xs ++ ys) ≡ linesFrom r xs ++ linesFrom (afterEvents r xs) ys
 unfolding linesFrom afterEvents
 lines-on r [] ys = refl
 lines-on r (x ∷ xs) ys = ap (λ (l : List Line). shown r x .line ∷ l) (lines-on (shown r x .next) xs ys)
