@@ -2,6 +2,7 @@
  * Runs one operation of one implementation a number of times:
  *
  *     bench ours|bearssl digest|encrypt|decrypt|seal|open LENGTH COUNT
+ *     bench bearssl-big|bearssl-ct encrypt|decrypt 16 COUNT
  *
  * and prints the nanoseconds that all of it took and the bytes that came out last. Each turn works
  * on what the turn before it made, so the last bytes depend on every turn; `open` counts the packets
@@ -25,10 +26,13 @@ void bench_decrypt(const uint8_t key[16], uint8_t block[16]);
 void bench_seal(const uint8_t key[16], const uint8_t nonce[8], const uint8_t *name, size_t name_len, uint8_t out[80]);
 uint8_t bench_open(const uint8_t key[16], const uint8_t *packet, size_t packet_len);
 
-/* BearSSL's small AES and its key schedule: in its archive, and not in its headers. */
+/* BearSSL's AES with small and with big tables, and its key schedules: in its archive, and not in its headers. */
 unsigned br_aes_keysched(uint32_t *skey, const void *key, size_t key_len);
 void br_aes_small_encrypt(unsigned num_rounds, const uint32_t *skey, void *data);
 void br_aes_small_decrypt(unsigned num_rounds, const uint32_t *skey, void *data);
+void br_aes_big_encrypt(unsigned num_rounds, const uint32_t *skey, void *data);
+unsigned br_aes_big_keysched_inv(uint32_t *skey, const void *key, size_t key_len);
+void br_aes_big_decrypt(unsigned num_rounds, const uint32_t *skey, void *data);
 
 enum { LONGEST = 1000, SCHEDULE_WORDS = 60 };
 
@@ -85,6 +89,39 @@ static void bearssl_decrypt(struct work *w)
 	uint32_t schedule[SCHEDULE_WORDS];
 	unsigned rounds = br_aes_keysched(schedule, w->key, sizeof w->key);
 	br_aes_small_decrypt(rounds, schedule, w->result);
+}
+
+/* ---- yardsticks: BearSSL's AES with big tables, and that in constant time */
+
+static void bearssl_big_encrypt(struct work *w)
+{
+	uint32_t schedule[SCHEDULE_WORDS];
+	unsigned rounds = br_aes_keysched(schedule, w->key, sizeof w->key);
+	br_aes_big_encrypt(rounds, schedule, w->result);
+}
+
+static void bearssl_big_decrypt(struct work *w)
+{
+	uint32_t schedule[SCHEDULE_WORDS];
+	unsigned rounds = br_aes_big_keysched_inv(schedule, w->key, sizeof w->key);
+	br_aes_big_decrypt(rounds, schedule, w->result);
+}
+
+/* A block by itself is a message of one block in CBC mode, with zeros before it. */
+static void bearssl_ct_encrypt(struct work *w)
+{
+	br_aes_ct_cbcenc_keys keys;
+	uint8_t before[16] = { 0 };
+	br_aes_ct_cbcenc_init(&keys, w->key, sizeof w->key);
+	br_aes_ct_cbcenc_run(&keys, before, w->result, 16);
+}
+
+static void bearssl_ct_decrypt(struct work *w)
+{
+	br_aes_ct_cbcdec_keys keys;
+	uint8_t before[16] = { 0 };
+	br_aes_ct_cbcdec_init(&keys, w->key, sizeof w->key);
+	br_aes_ct_cbcdec_run(&keys, before, w->result, 16);
 }
 
 /* ---- packets with a name */
@@ -168,6 +205,10 @@ static const struct operation_of {
 	{ "bearssl", "decrypt", bearssl_decrypt, 16, 16 },
 	{ "bearssl", "seal", bearssl_seal, 0, NAME_MAX },
 	{ "bearssl", "open", bearssl_open, DATA, PACKET_MAX },
+	{ "bearssl-big", "encrypt", bearssl_big_encrypt, 16, 16 },
+	{ "bearssl-big", "decrypt", bearssl_big_decrypt, 16, 16 },
+	{ "bearssl-ct", "encrypt", bearssl_ct_encrypt, 16, 16 },
+	{ "bearssl-ct", "decrypt", bearssl_ct_decrypt, 16, 16 },
 };
 
 /* The operation, if it takes that length. */
@@ -216,7 +257,9 @@ int main(int argc, char **argv)
 	work.length = argc == 5 ? strtoul(argv[3], NULL, 10) : 0;
 	operation run = argc == 5 ? find(argv[1], argv[2], work.length) : NULL;
 	if (run == NULL) {
-		fputs("usage: bench ours|bearssl digest|encrypt|decrypt|seal|open LENGTH COUNT\n", stderr);
+		fputs("usage: bench ours|bearssl digest|encrypt|decrypt|seal|open LENGTH COUNT\n"
+		      "       bench bearssl-big|bearssl-ct encrypt|decrypt 16 COUNT\n",
+		      stderr);
 		return 2;
 	}
 	fill(work.key, sizeof work.key, 1);

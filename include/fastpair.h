@@ -119,10 +119,10 @@
 #include <stdint.h>
 
 /* The version of this interface; docs/CHANGES.md says what changed. */
-#define FP_VERSION "4.3.0"
+#define FP_VERSION "4.3.1"
 #define FP_VERSION_MAJOR 4
 #define FP_VERSION_MINOR 3
-#define FP_VERSION_PATCH 0
+#define FP_VERSION_PATCH 1
 
 #ifdef __cplusplus
 extern "C" {

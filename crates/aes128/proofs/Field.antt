@@ -13,7 +13,7 @@ use Rattle.aes128.specs.Field.{_⊕_, _•_, bit, xTimes, plusIf, produc
 shifted : (a b : ℕ) → (a ⊕ b) * 2 % 256 ≡ a * 2 % 256 ⊕ b * 2 % 256
 shifted a b = ap (λ n. n % 256) (sym (xor-shl a b 1)) ∙ xor-mod (a * 2) (b * 2) 8
 
-bit-lt : (b i : ℕ) → bit b i < 2
+pub bit-lt : (b i : ℕ) → bit b i < 2
 bit-lt b i = mod-lt (b / 2 ^ i) (lit< tt)
 
 reduced : (a b : ℕ) → bit (a ⊕ b) 7 * 27 ≡ bit a 7 * 27 ⊕ bit b 7 * 27

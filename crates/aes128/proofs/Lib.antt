@@ -1,8 +1,14 @@
+pub mod Blocks
+pub mod Doubling
 pub mod Field
 pub mod Inverse
-pub mod Laws
+pub mod Lookups
 pub mod Matrix
+pub mod Mixing
+pub mod RoundKeys
+pub mod Rounds
 pub mod SBox
 pub mod Schedule
 pub mod Sizes
 pub mod State
+pub mod Words

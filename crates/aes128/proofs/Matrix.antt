@@ -1,19 +1,22 @@
--- INVMIXCOLUMNS undoes MIXCOLUMNS: both are additive, so the powers of two in each place of a column are enough.
+-- Products of the matrices that a column is multiplied by. A product is tested with the powers of two in each row of a column: all
+-- is additive, so they are enough.
 -- Assumes nothing.
 use mathlib.Core.Path.{_≡_, refl, sym, _∙_, ap}
-use mathlib.Core.Bool.{Bool, true, false, cond}
-use mathlib.Core.List.{List, []}
+use mathlib.Core.Bool.{Bool}
+use mathlib.Core.List.{List, [], _∷_}
 use Prim.Native.Nat.{ℕ, _+_, _*_, _^_, _<_}
 use lib.Dec.{T, eqb, eqb→eq, ltb, lit<}
 use lib.ListN.{getD, replicate}
 use lib.Bits.{xor-zero-r}
 use Rattle.laws.proofs.Additive.{Additive, additive-agree}
+use Rattle.laws.proofs.Filled.{tabulate-ext}
 use Rattle.laws.proofs.Table as table
 use Rattle.laws.proofs.Xor.{xor-exchange}
 use Rattle.aes128.specs.Field.{_⊕_, _•_, xTimes, product}
 use Rattle.aes128.specs.Inverse.{Block}
 use Rattle.aes128.specs.Rounds.{times, mixBy, mixMatrix, invMixMatrix, mixColumns, invMixColumns}
 use Rattle.aes128.specs.State.{at}
+use Rattle.aes128.specs.Steps.{multiplied}
 use Rattle.aes128.proofs.Field.{mul-additive}
 use Rattle.aes128.proofs.State.{state-ext, at-state, state-at, by-row}
 
@@ -48,88 +51,106 @@ mul-sum4 n a b c d =
 sum4-eq : {a b c d e f g h : ℕ} → a ≡ e → b ≡ f → c ≡ g → d ≡ h → sum4 a b c d ≡ sum4 e f g h
 sum4-eq p q r s = rw (p, q, r, s)
 
--- the coefficients in row r, column c
-abbrev mix : ℕ → ℕ → ℕ
-mix r c = getD (getD mixMatrix r []) c 0
+-- the coefficient in row r, column c
+abbrev entry : List (List ℕ) → ℕ → ℕ → ℕ
+entry m r c = getD (getD m r []) c 0
 
-abbrev inv : ℕ → ℕ → ℕ
-inv r c = getD (getD invMixMatrix r []) c 0
+module _ (m n p : List (List ℕ)) where
+  -- what the byte x in row k of a column adds to row r by way of row j between m and n
+  abbrev term : ℕ → ℕ → ℕ → ℕ → ℕ
+  term r k j x = entry m r j • (entry n j k • x)
 
--- what the byte x in row k of a column adds to row r by way of row j between the two matrices
-abbrev term : ℕ → ℕ → ℕ → ℕ → ℕ
-term r k j x = inv r j • (mix j k • x)
+  term-add : (r k j a b : ℕ) → term r k j (a ⊕ b) ≡ term r k j a ⊕ term r k j b
+  term-add r k j a b =
+      ap (λ x. entry m r j • x) (mul-additive (entry n j k) .adds a b)
+      ∙ mul-additive (entry m r j) .adds (entry n j k • a) (entry n j k • b)
 
-term-add : (r k j a b : ℕ) → term r k j (a ⊕ b) ≡ term r k j a ⊕ term r k j b
-term-add r k j a b =
-    ap (λ x. inv r j • x) (mul-additive (mix j k) .adds a b) ∙ mul-additive (inv r j) .adds (mix j k • a) (mix j k • b)
+  -- and what it adds in all
+  added : ℕ → ℕ → ℕ → ℕ
+  added r k x = sum4 (term r k 0 x) (term r k 1 x) (term r k 2 x) (term r k 3 x)
 
--- and what it adds in all
-entry : ℕ → ℕ → ℕ → ℕ
-entry r k x = sum4 (term r k 0 x) (term r k 1 x) (term r k 2 x) (term r k 3 x)
+  added-additive : (r k : ℕ) → Additive (added r k)
+  unfolding added
+  added-additive r k =
+      record {
+        adds = λ a b.
+            sum4-eq (term-add r k 0 a b) (term-add r k 1 a b) (term-add r k 2 a b) (term-add r k 3 a b)
+            ∙ sum4-add (term r k 0 a) (term r k 1 a) (term r k 2 a) (term r k 3 a) (term r k 0 b) (term r k 1 b)
+            (term r k 2 b) (term r k 3 b);
+      }
 
-entry-additive : (r k : ℕ) → Additive (entry r k)
-unfolding entry
-entry-additive r k =
-    record {
-      adds = λ a b.
-          sum4-eq (term-add r k 0 a b) (term-add r k 1 a b) (term-add r k 2 a b) (term-add r k 3 a b)
-          ∙ sum4-add (term r k 0 a) (term r k 1 a) (term r k 2 a) (term r k 3 a) (term r k 0 b) (term r k 1 b)
-          (term r k 2 b) (term r k 3 b);
-    }
+  -- the test, at row r of what a power of two in row k gives
+  power : ℕ → ℕ → ℕ → ℕ → Bool
+  power r k i x = eqb (added r k (2 ^ i)) (entry p r k • 2 ^ i)
 
--- x in its own row, and nothing in another
-abbrev unit : Bool → ℕ → ℕ
-unit same x = cond same x 0
+  powers : ℕ → ℕ → ℕ → Bool
+  powers r k x = table.every (power r k) 0 (replicate 8 0)
 
-unit-additive : (same : Bool) → Additive (unit same)
-unit-additive true = record { adds = λ a b. refl }
-unit-additive false = record { adds = λ a b. refl }
+  rows : ℕ → ℕ → Bool
+  rows r x = table.every (powers r) 0 (replicate 4 0)
 
--- the test, at row r of what a power of two in row k gives
-power : ℕ → ℕ → ℕ → ℕ → Bool
-power r k i x = eqb (entry r k (2 ^ i)) (unit (eqb r k) (2 ^ i))
+  -- p is the product of m and n
+  isProduct : Bool
+  isProduct = table.every rows 0 (replicate 4 0)
 
-powers : ℕ → ℕ → ℕ → Bool
-powers r k x = table.every (power r k) 0 (replicate 8 0)
+  module _ (tested : T isProduct) where
+    added-is : (r k x : ℕ) → r < 4 → k < 4 → x < 256 → added r k x ≡ entry p r k • x
+    unfolding isProduct rows powers power
+    added-is r k x hr hk hx =
+        additive-agree (added-additive r k) (mul-additive (entry p r k)) 8
+        (λ i hi. eqb→eq (added r k (2 ^ i)) (entry p r k • 2 ^ i) (table.every-at (power r k) (replicate 8 0) place i hi)) x hx
+      where
+        place : T (table.every (power r k) 0 (replicate 8 0))
+        place = table.every-at (powers r) (replicate 4 0) (table.every-at rows (replicate 4 0) tested r hr) k hk
 
-rows : ℕ → ℕ → Bool
-rows r x = table.every (powers r) 0 (replicate 4 0)
+    -- row r of a column x that passed through both matrices
+    row-product : (r : ℕ) → r < 4 → (x : ℕ → ℕ) → ((k : ℕ) → x k < 256)
+        → times (getD m r []) (λ j. times (getD n j []) x) ≡ times (getD p r []) x
+    unfolding added
+    row-product r hr x hx =
+        sum4-eq (part 0) (part 1) (part 2) (part 3)
+        ∙ sum4-transpose (λ k. term r k 0 (x k)) (λ k. term r k 1 (x k)) (λ k. term r k 2 (x k)) (λ k. term r k 3 (x k))
+        ∙ sum4-eq (whole 0 tt) (whole 1 tt) (whole 2 tt) (whole 3 tt)
+      where
+        part : (j : ℕ) → entry m r j • times (getD n j []) x ≡ sum4 (term r 0 j (x 0)) (term r 1 j (x 1))
+            (term r 2 j (x 2)) (term r 3 j (x 3))
+        part j = mul-sum4 (entry m r j) (entry n j 0 • x 0) (entry n j 1 • x 1) (entry n j 2 • x 2) (entry n j 3 • x 3)
 
-tested : T (table.every rows 0 (replicate 4 0))
-unfolding rows powers power entry _•_ product xTimes
-tested = tt
+        whole : (k : ℕ) → T (ltb k 4) → added r k (x k) ≡ entry p r k • x k
+        whole k h = added-is r k (x k) hr (lit< h) (hx k)
 
-entry-unit : (r k x : ℕ) → r < 4 → k < 4 → x < 256 → entry r k x ≡ unit (eqb r k) x
-unfolding rows powers power
-entry-unit r k x hr hk hx =
-    additive-agree (entry-additive r k) (unit-additive (eqb r k)) 8
-    (λ i hi. eqb→eq (entry r k (2 ^ i)) (unit (eqb r k) (2 ^ i)) (table.every-at (power r k) (replicate 8 0) place i hi)) x hx
-  where
-    place : T (table.every (power r k) 0 (replicate 8 0))
-    place = table.every-at (powers r) (replicate 4 0) (table.every-at rows (replicate 4 0) tested r hr) k hk
+-- ---- the inverse matrix has the other as a factor
 
--- row r of a column x that passed through both matrices
-row-product : (r : ℕ) → r < 4 → (x : ℕ → ℕ) → ((k : ℕ) → x k < 256)
-    → times (getD invMixMatrix r []) (λ j. times (getD mixMatrix j []) x)
-    ≡ sum4 (unit (eqb r 0) (x 0)) (unit (eqb r 1) (x 1)) (unit (eqb r 2) (x 2)) (unit (eqb r 3) (x 3))
-unfolding entry
-row-product r hr x hx =
-    sum4-eq (part 0) (part 1) (part 2) (part 3)
-    ∙ sum4-transpose (λ k. term r k 0 (x k)) (λ k. term r k 1 (x k)) (λ k. term r k 2 (x k)) (λ k. term r k 3 (x k))
-    ∙ sum4-eq (unit-at 0 tt) (unit-at 1 tt) (unit-at 2 tt) (unit-at 3 tt)
-  where
-    part : (j : ℕ) → inv r j • times (getD mixMatrix j []) x ≡ sum4 (term r 0 j (x 0)) (term r 1 j (x 1))
-        (term r 2 j (x 2)) (term r 3 j (x 3))
-    part j = mul-sum4 (inv r j) (mix j 0 • x 0) (mix j 1 • x 1) (mix j 2 • x 2) (mix j 3 • x 3)
+-- what a column passes through before MIXCOLUMNS, so that both together are INVMIXCOLUMNS
+abbrev pub firstFactor : List (List ℕ)
+firstFactor = (5 ∷ 0 ∷ 4 ∷ 0 ∷ []) ∷ (0 ∷ 5 ∷ 0 ∷ 4 ∷ []) ∷ (4 ∷ 0 ∷ 5 ∷ 0 ∷ []) ∷ (0 ∷ 4 ∷ 0 ∷ 5 ∷ []) ∷ []
 
-    unit-at : (k : ℕ) → T (ltb k 4) → entry r k (x k) ≡ unit (eqb r k) (x k)
-    unit-at k h = entry-unit r k (x k) hr (lit< h) (hx k)
+factored : T (isProduct mixMatrix firstFactor invMixMatrix)
+unfolding isProduct rows powers power added _•_ product xTimes
+factored = tt
 
-row-unit : (x : ℕ → ℕ) (r : ℕ) → r < 4
-    → sum4 (unit (eqb r 0) (x 0)) (unit (eqb r 1) (x 1)) (unit (eqb r 2) (x 2)) (unit (eqb r 3) (x 3)) ≡ x r
+pub multiplied-factors : (w : List ℕ) → ((i : ℕ) → getD w i 0 < 256)
+    → multiplied mixMatrix (multiplied firstFactor w) ≡ multiplied invMixMatrix w
+unfolding multiplied
+multiplied-factors w h =
+    tabulate-ext 4 (λ r. times (getD mixMatrix r []) (λ j. getD (multiplied firstFactor w) j 0))
+    (λ r. times (getD invMixMatrix r []) (λ j. getD w j 0))
+    (λ r hr. row-product mixMatrix firstFactor invMixMatrix factored r hr (λ k. getD w k 0) h)
+
+-- ---- INVMIXCOLUMNS undoes MIXCOLUMNS
+
+abbrev unitMatrix : List (List ℕ)
+unitMatrix = (1 ∷ 0 ∷ 0 ∷ 0 ∷ []) ∷ (0 ∷ 1 ∷ 0 ∷ 0 ∷ []) ∷ (0 ∷ 0 ∷ 1 ∷ 0 ∷ []) ∷ (0 ∷ 0 ∷ 0 ∷ 1 ∷ []) ∷ []
+
+undone : T (isProduct invMixMatrix mixMatrix unitMatrix)
+unfolding isProduct rows powers power added _•_ product xTimes
+undone = tt
+
+row-unit : (x : ℕ → ℕ) (r : ℕ) → r < 4 → times (getD unitMatrix r []) x ≡ x r
+unfolding _•_ product
 row-unit x =
-    by-row (λ r. sum4 (unit (eqb r 0) (x 0)) (unit (eqb r 1) (x 1)) (unit (eqb r 2) (x 2)) (unit (eqb r 3) (x 3)) ≡ x r)
-    (ap (λ y. y ⊕ 0 ⊕ 0) (xor-zero-r (x 0)) ∙ alone (x 0)) (alone (x 1)) (xor-zero-r (x 2)) refl
+    by-row (λ r. times (getD unitMatrix r []) x ≡ x r) (ap (λ y. y ⊕ 0 ⊕ 0) (xor-zero-r (x 0)) ∙ alone (x 0)) (alone (x 1))
+    (xor-zero-r (x 2)) refl
   where
     alone : (a : ℕ) → a ⊕ 0 ⊕ 0 ≡ a
     alone a = ap (λ y. y ⊕ 0) (xor-zero-r a) ∙ xor-zero-r a
@@ -140,7 +161,8 @@ invMixColumns-mixColumns s p =
     state-ext (λ r c. times (getD invMixMatrix r []) (λ j. at (mixColumns s) j c)) (at s)
     (λ r c hr hc.
     rw (mixed 0 c (lit< tt) hc, mixed 1 c (lit< tt) hc, mixed 2 c (lit< tt) hc, mixed 3 c (lit< tt) hc)
-    (row-product r hr (λ k. at s k c) (λ k. p .bytes (k + 4 * c)) ∙ row-unit (λ k. at s k c) r hr))
+    (row-product invMixMatrix mixMatrix unitMatrix undone r hr (λ k. at s k c) (λ k. p .bytes (k + 4 * c))
+    ∙ row-unit (λ k. at s k c) r hr))
     ∙ state-at s (p .long)
   where
     mixed : (j c : ℕ) → j < 4 → c < 4 → at (mixColumns s) j c ≡ times (getD mixMatrix j []) (λ k. at s k c)

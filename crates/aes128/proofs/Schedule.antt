@@ -1,6 +1,6 @@
 -- The round keys, four words at a time, are the standard's words w[i]; and they are bytes if the key is.
 -- Assumes nothing.
-use mathlib.Core.Path.{_≡_, _∙_, ap}
+use mathlib.Core.Path.{_≡_}
 use mathlib.Core.List.{List, [], _∷_}
 use Prim.Native.Nat.{ℕ, zero, suc, _+_, _*_, _-_, _/_, _%_, _<_}
 use native.Mathlib.Omega.{arith}
@@ -22,25 +22,24 @@ word-step : (key : List ℕ) (i h k m j : ℕ) → h ≡ suc (suc (suc i)) → k
 unfolding word
 word-step key i h k m j p q r s = rw (q, p) (rw (r, s))
 
-nextRoundKey-columns : (w x y z a b c d : List ℕ) (e : ℕ) → a ≡ xorWord w (xorWord (subWord (rotWord z)) (e ∷ 0 ∷ 0 ∷ 0 ∷ []))
+nextRoundKey-columns : (w x y z a b c d e : List ℕ) → a ≡ xorWord w (xorWord (subWord (rotWord z)) e)
     → b ≡ xorWord x a → c ≡ xorWord y b → d ≡ xorWord z c → columns a b c d ≡ nextRoundKey (columns w x y z) e
 unfolding nextRoundKey
 nextRoundKey-columns w x y z a b c d e p q r s = rw (s, r, q, p)
 
 -- each round key follows from the one before
-pub roundKey-next : (key : List ℕ) (n : ℕ) → roundKey key (suc n) ≡ nextRoundKey (roundKey key n) (xPower n)
+pub roundKey-next : (key : List ℕ) (n : ℕ) → roundKey key (suc n) ≡ nextRoundKey (roundKey key n) (rcon (suc n))
 unfolding roundKey
 roundKey-next key n =
     nextRoundKey-columns (word key (4 * n)) (word key (4 * n + 1)) (word key (4 * n + 2)) (word key (4 * n + 3))
     (word key (4 * suc n)) (word key (4 * suc n + 1)) (word key (4 * suc n + 2)) (word key (4 * suc n + 3))
-    (xPower (suc n - 1))
+    (rcon (suc n))
     (word-step key (4 * n) (4 * n + 3) (4 * suc n) 0 (suc n) (omega arith) (omega arith) (omega arith) (omega arith))
     (word-step key (4 * n + 1) (4 * suc n) (4 * suc n + 1) 1 (suc n) (omega arith) (omega arith) (omega arith) (omega arith))
     (word-step key (4 * n + 2) (4 * suc n + 1) (4 * suc n + 2) 2 (suc n) (omega arith) (omega arith) (omega arith)
     (omega arith))
     (word-step key (4 * n + 3) (4 * suc n + 2) (4 * suc n + 3) 3 (suc n) (omega arith) (omega arith) (omega arith)
     (omega arith))
-    ∙ ap (λ i. nextRoundKey (roundKey key n) (xPower i)) (omega arith)
 
 -- a list of bytes
 abbrev pub Bytes : List ℕ → Type 0

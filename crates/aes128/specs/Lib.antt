@@ -7,3 +7,4 @@ pub mod SBox
 pub mod State
 pub mod Steps
 pub mod Tables
+pub mod Words

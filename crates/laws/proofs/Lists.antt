@@ -1,7 +1,7 @@
 -- Laws of lists beside those of lib.Seq, with indices as code writes them (`i + 1`).
 -- Assumes nothing.
 use mathlib.Core.List.{List, [], _∷_, _++_, map, map-append, append-nil}
-use mathlib.Core.Path.{_≡_, refl, sym, _∙_}
+use mathlib.Core.Path.{_≡_, refl, sym, _∙_, ap}
 use Prim.Native.Nat.{ℕ, zero, suc, _+_, _-_, _≤_, _<_}
 use native.Mathlib.Nat.{le-refl, sub-zero, zero-sub, suc-sub-suc, le-of-suc-le-suc, not-suc-le-zero}
 use native.Mathlib.Numerals.{add-one}
@@ -82,6 +82,11 @@ pub getD4-front {ℓ} : {A : Type ℓ} (l : List A) (z : A) → 4 ≤ length l
 getD4-front l z h =
     let e = set4-front l (getD l 0 z) (getD l 1 z) (getD l 2 z) (getD l 3 z) h in
     rw (set-getD l 0 z, set-getD l 1 z, set-getD l 2 z, set-getD l 3 z) at e
+
+pub map-set : {A B : Type 0} (f : A → B) (l : List A) (i : ℕ) (a : A) → map f (set l i a) ≡ set (map f l) i (f a)
+map-set f [] i a = refl
+map-set f (x ∷ l) zero a = refl
+map-set f (x ∷ l) (suc i) a = ap (λ t. f x ∷ t) (map-set f l i a)
 
 -- a turn of a loop that maps a list in place
 pub map-more : {A : Type 0} (f : A → A) (l : List A) (i : ℕ) (z : A) {r : List A} {v : A} → r ≡ map f

@@ -3,10 +3,11 @@
 use mathlib.Core.List.{List, [], _∷_, _++_}
 use mathlib.Core.Path.{_≡_, refl, sym, ap, ap₂, _∙_}
 use Prim.Native.Nat.{ℕ, zero, suc, _+_, _*_, _/_, _%_, _^_, _≤_, _<_}
-use native.Mathlib.Nat.{lt-of-lt-of-le, mod-one, mod-eq-of-lt, mul-add-mod-self-right}
+use native.Mathlib.Nat.{lt-of-lt-of-le, mod-lt, mod-one, mod-eq-of-lt, mul-add-mod-self-right}
 use native.Mathlib.Numerals.{add-one}
 use native.Mathlib.Omega.{arith}
 use lib.Arith.{digits-lt}
+use lib.Dec.{lit<}
 use lib.ListN.{length, take, getD, length-append}
 use lib.Pow.{pow-mono, pow-add, mod-pow-add, mod-mod-pow, field, high}
 use lib.Seq.{take-suc}
@@ -21,6 +22,11 @@ bits-more n = omega arith
 pub length-bytes : (n x : ℕ) → length (bytes n x) ≡ n
 length-bytes zero x = refl
 length-bytes (suc n) x = ap suc (length-bytes n x)
+
+pub bytes-lt : (n x i : ℕ) → getD (bytes n x) i 0 < 256
+bytes-lt zero x i = lit< tt
+bytes-lt (suc n) x zero = mod-lt (x / 2 ^ (n * 8)) (lit< tt)
+bytes-lt (suc n) x (suc i) = bytes-lt n x i
 
 -- the n lowest bytes of a number are those of its lowest n * 8 bits
 bytes-low : (n x y : ℕ) → x % 2 ^ (n * 8) ≡ y % 2 ^ (n * 8) → bytes n x ≡ bytes n y

@@ -1,0 +1,28 @@
+-- The table has INVSBOX at each byte.
+-- Assumes nothing.
+use Rattle.aes128.specs.Rounds.{invSubBytes}
+use Rattle.aes128.specs.SBox.{invSBox}
+use Rattle.aes128.proofs.Lookups.{shifted-back-by, invSBox-at}
+use borrow.Author.Needs.{needs}
+use Rattle.aes128.proofs.columns.inv_shift_rows_sub_bytes.Statement.{statement}
+use Rattle.aes128.proofs.columns.inv_shift_rows_sub_bytes.Tie as tie
+
+returns : tie.Need-returns
+unfolding invSubBytes
+returns c =
+    let third = c .before in
+    let second = third .before in
+    let first = second .before in
+    let start = first .before in
+    shifted-back-by (start .args .t .now) invSBox (invSBox-at (start .pre)) (start .args .s) _ (first .substitute .ensures)
+    (second .substitute2 .ensures) (third .substitute3 .ensures) (c .substitute4 .ensures)
+
+pub inv-shift-rows-sub-bytes-spec : {M : Type 1} → statement M
+inv-shift-rows-sub-bytes-spec =
+    tie.close
+    (tie.spec
+    (λ c κs. search needs)
+    (λ c κs. search needs)
+    (λ c κs. search needs)
+    (λ c κs. search needs)
+    returns)

@@ -1,0 +1,15 @@
+-- The table has SBOX at each byte.
+-- Assumes nothing.
+use Rattle.aes128.specs.SBox.{sBox}
+use Rattle.aes128.proofs.Lookups.{subWord-by, sBox-at}
+use borrow.Author.Needs.{needs}
+use Rattle.aes128.proofs.expansion.sub_word.Statement.{statement}
+use Rattle.aes128.proofs.expansion.sub_word.Tie as tie
+
+returns : tie.Need-returns
+returns c =
+    let start = c .before in
+    subWord-by (start .args .t .now) sBox (sBox-at (start .pre)) (start .args .w) (c .substitute .ensures)
+
+pub sub-word-spec : {M : Type 1} → statement M
+sub-word-spec = tie.close (tie.spec (λ c κs. search needs) returns)
