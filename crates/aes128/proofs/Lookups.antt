@@ -9,14 +9,11 @@ use Rattle.laws.specs.BigEndian.{bytes}
 use Rattle.laws.specs.Tabulate.{tabulate}
 use Rattle.laws.proofs.Numbers.{bytes-lt}
 use Rattle.aes128.specs.Rounds.{shiftRows, invShiftRows}
-use Rattle.aes128.specs.SBox.{sBox, invSBox}
 use Rattle.aes128.specs.State.{at, state}
 use Rattle.aes128.specs.Steps.{substituted}
-use Rattle.aes128.specs.Tables.{sBoxTable, invSBoxTable}
 use Rattle.aes128.specs.Words.{blockOf}
 use Rattle.aes128.specs.declared.columns.Columns.{Columns}
 use Rattle.aes128.proofs.Blocks.{block-made}
-use Rattle.aes128.proofs.SBox.{follow-the-rule}
 
 pub substituted-made : (t : List ℕ) (w x y z : ℕ) {a b c d : ℕ} {l : List ℕ} → l ≡ a ∷ b ∷ c ∷ d ∷ []
     → a ≡ getD t (w / 2 ^ 24 % 256) 0 → b ≡ getD t (x / 2 ^ 16 % 256) 0 → c ≡ getD t (y / 2 ^ 8 % 256) 0
@@ -26,20 +23,14 @@ substituted-made t w x y z e p q r s =
     let lowest : z ≡ z / 2 ^ 0 = omega arith in
     e ∙ rw (p, q, r, s, ← lowest)
 
--- the two tables of src/ have the values of SBOX and INVSBOX
-pub sBox-at : {t : List ℕ} → t ≡ sBoxTable → (b : ℕ) → b < 256 → getD t b 0 ≡ sBox b
-sBox-at e b h = ap (λ l. getD l b 0) e ∙ follow-the-rule .first b h
-
-pub invSBox-at : {t : List ℕ} → t ≡ invSBoxTable → (b : ℕ) → b < 256 → getD t b 0 ≡ invSBox b
-invSBox-at e b h = ap (λ l. getD l b 0) e ∙ follow-the-rule .second b h
-
-module _ (t : List ℕ) (f : ℕ → ℕ) (right : (b : ℕ) → b < 256 → getD t b 0 ≡ f b) where
+-- of a list t that is a table with the values of f
+module _ (table : List ℕ) (f : ℕ → ℕ) (right : (b : ℕ) → b < 256 → getD table b 0 ≡ f b) (t : List ℕ) (same : t ≡ table) where
   -- the word of four bytes
   by-table : (w x y z : ℕ) {l : List ℕ} → l ≡ substituted t w x y z
       → l ≡ f (getD (bytes 4 w) 0 0) ∷ f (getD (bytes 4 x) 1 0) ∷ f (getD (bytes 4 y) 2 0) ∷ f (getD (bytes 4 z) 3 0) ∷ []
   unfolding substituted
   by-table w x y z e =
-      e ∙ rw (
+      e ∙ ap (λ (l : List ℕ). substituted l w x y z) same ∙ rw (
         right (getD (bytes 4 w) 0 0) (bytes-lt 4 w 0),
         right (getD (bytes 4 x) 1 0) (bytes-lt 4 x 1),
         right (getD (bytes 4 y) 2 0) (bytes-lt 4 y 2),

@@ -1,5 +1,5 @@
--- What the private functions of src/ return: parts of the standard's steps, in the shape that the code computes them. A word is the
--- list of its four bytes.
+-- What the private functions of src/ return: parts of the standard's steps, in the shape that the code computes them. Words are lists
+-- of their four bytes; `substituted` takes them as numbers.
 -- Assumes nothing.
 use mathlib.Core.List.{List, [], _∷_}
 use Prim.Native.Nat.{ℕ}

@@ -1,5 +1,5 @@
--- What is proved of the two substitution tables of src/: proofs/SBox.antt. That the code's tables are these lists, the contracts of
--- `sub_bytes`, `inv_sub_bytes` and `sub_word` show, whose proofs take the code's table for the list.
+-- What is proved of the two substitution tables of src/: proofs/SBox.antt. That the code's tables are these lists is what `round_keys`,
+-- `sub_bytes_shift_rows` and `inv_shift_rows_sub_bytes` ask of the table that is lent to them.
 -- Assumes nothing.
 use mathlib.Core.List.{List, [], _∷_}
 use mathlib.Core.Path.{_≡_}

@@ -41,7 +41,7 @@ fn look(t: &[u8; 256], w: u32) -> u8
     t[(w % 256) as usize]
 }
 
-// XTIMES of §4.2 at all four bytes, with no branch: the mask is {7f} where a byte's highest bit is set, which {1b} passes.
+// XTIMES of §4.2 at all four bytes, with no branch: where a byte's highest bit is set the mask is {7f}, which keeps all of {1b}.
 pub fn double_word(w: u32) -> u32
     ensures { λ r. ⌜ bytes 4 r ≡ doubled (bytes 4 w) ⌝ }
 {

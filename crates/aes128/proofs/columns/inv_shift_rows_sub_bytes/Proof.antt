@@ -2,7 +2,9 @@
 -- Assumes nothing.
 use Rattle.aes128.specs.Rounds.{invSubBytes}
 use Rattle.aes128.specs.SBox.{invSBox}
-use Rattle.aes128.proofs.Lookups.{shifted-back-by, invSBox-at}
+use Rattle.aes128.specs.Tables.{invSBoxTable}
+use Rattle.aes128.proofs.Lookups.{shifted-back-by}
+use Rattle.aes128.proofs.SBox.{follow-the-rule}
 use borrow.Author.Needs.{needs}
 use Rattle.aes128.proofs.columns.inv_shift_rows_sub_bytes.Statement.{statement}
 use Rattle.aes128.proofs.columns.inv_shift_rows_sub_bytes.Tie as tie
@@ -14,8 +16,8 @@ returns c =
     let second = third .before in
     let first = second .before in
     let start = first .before in
-    shifted-back-by (start .args .t .now) invSBox (invSBox-at (start .pre)) (start .args .s) _ (first .substitute .ensures)
-    (second .substitute2 .ensures) (third .substitute3 .ensures) (c .substitute4 .ensures)
+    shifted-back-by invSBoxTable invSBox (follow-the-rule .second) (start .args .t .now) (start .pre) (start .args .s) _
+    (first .substitute .ensures) (second .substitute2 .ensures) (third .substitute3 .ensures) (c .substitute4 .ensures)
 
 pub inv-shift-rows-sub-bytes-spec : {M : Type 1} → statement M
 inv-shift-rows-sub-bytes-spec =
