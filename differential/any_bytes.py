@@ -4,12 +4,13 @@ from collections import Counter
 from random import Random
 
 from reference.generator.every_kind import one_of_each
-from reference.rules.events import Overflow, plain_reply
+from reference.rules.advertising import filter_size
+from reference.rules.events import AddressRotated, FactoryReset, Overflow, PowerOn, plain_reply
 
 from . import corrupted_device
 from .compare import Difference
 from .guarded_memory import InterfaceViolation
-from .struct_values import differing, values
+from .struct_values import differing, keys, values
 
 NOT_A_DEVICE = 255
 LAST_ANSWER = 15
@@ -31,6 +32,7 @@ class AnyBytes:
                 self.refused(device, kinds)
                 or self.ignored(device, kinds)
                 or self.answered(device, kinds)
+                or self.served(device, kinds)
             )
         except InterfaceViolation as violation:
             return Difference("any bytes: memory or reply", "", str(violation))
@@ -81,6 +83,29 @@ class AnyBytes:
                 return differs(corrupted_device.any_numbers, event, odd, "an answer of the table", reply)
         return None
 
+    def served(self, device, kinds):
+        """ "a device whose filter you changed advertises it so .. until one of these events" """
+        other = corrupted_device.copy(device)
+        corrupted_device.other_filter(self.random, other)
+        for event in kinds:
+            expected, reply = self.library.step(device, event)
+            if not builds(event, device, expected, reply):
+                expected.filter = other.filter
+            found = self.step(other, event)
+            if (values(expected), reply) != found:
+                return differs(corrupted_device.other_filter, event, other, (values(expected), reply), found)
+        return self.shown(other)
+
+    def shown(self, device):
+        """The payload copies the filter as it stands."""
+        count = len(keys(device))
+        if device.pairing or not count:
+            return None
+        _, _, out = self.library.advertisement(device, 0, bytes(40))
+        size = filter_size(count)
+        expected, found = bytes(device.filter[:size]), out[6 : 6 + size]
+        return None if expected == found else differs(corrupted_device.other_filter, "payload", device, expected, found)
+
     def step(self, device, event):
         after, reply = self.library.step(device, event)
         return values(after), reply
@@ -89,6 +114,13 @@ class AnyBytes:
         """The stored list and both forms of the payload."""
         ask = self.library.advertisement
         return [self.library.stored_list(device, out), ask(device, 0, out), ask(device, 1, out)]
+
+
+def builds(event, before, after, reply):
+    """Whether the event builds the filter: a new salt, or other keys."""
+    if isinstance(event, (PowerOn, AddressRotated, FactoryReset)):
+        return reply.answer == 0
+    return sorted(keys(before)) != sorted(keys(after))
 
 
 def differs(fault, event, device, expected, found):

@@ -4,7 +4,7 @@ import subprocess
 
 from .c_compiler import compile_c
 from .layout import check_layout
-from .paths import ARCHIVE, FOLDER, PROGRAM, ROOT, SHARED
+from .paths import ARCHIVE, PROGRAM, ROOT, SHARED
 from .setup_error import SetupError
 
 # Without --whole-archive the linker would take nothing, since nothing asks for the functions.
@@ -15,7 +15,6 @@ def build():
     """The path of the shared object, made anew from the archive."""
     if not ARCHIVE.exists():
         raise SetupError(f"{ARCHIVE.relative_to(ROOT)} is not there; `tools/archive` makes it")
-    FOLDER.mkdir(parents=True, exist_ok=True)
     check_layout()
     compile_c("-shared", "-o", SHARED, *WHOLE)
     return SHARED

@@ -149,6 +149,14 @@ def reserved(random, device):
 NOT_IN_USE = (idle_link, free_salts, behind_salts, behind_list, behind_name, no_failure, reserved)
 
 
+# ---- bytes that are served as they stand
+
+
+def other_filter(random, device):
+    """A filter that is not the one of the keys and the salt, also in its unused bytes."""
+    device.filter[random.randrange(len(device.filter))] ^= random.randrange(1, 256)
+
+
 # ---- numbers that the header bounds nowhere
 
 

@@ -1,9 +1,10 @@
 """What fp_device has to hold for a device of the reference."""
 
+from reference.rules.advertising import account_key_filter
 from reference.rules.device import Stage
 from reference.rules.stored_list import pack, stored_list
 
-from .structs import LINKS, MOST_SALTS, NAME_MAX, STORED_LIST_MAX
+from .structs import FILTER_MAX, LINKS, MOST_SALTS, NAME_MAX, STORED_LIST_MAX
 
 STAGES = {
     Stage.ASKED: 1,
@@ -29,8 +30,8 @@ def expected_values(device):
     found += (device.failed_at if device.failures else 0,)
     found += stored(stored_list(device))
     found += name(device.name)
-    found += (device.public, device.model, device.ble, device.salt)
-    found += (int(device.pairing_mode), device.failures, bytes(5))
+    found += (device.public, device.model, device.ble, device.salt, built_filter(device))
+    found += (int(device.pairing_mode), device.failures, bytes(4))
     return tuple(found)
 
 
@@ -58,9 +59,14 @@ def name(text):
     return len(text), text.ljust(NAME_MAX, b"\0")
 
 
+def built_filter(device):
+    """Built afresh, and not the one that the reference keeps; "the others are zero"."""
+    return account_key_filter(device.keys, device.salt).ljust(FILTER_MAX, b"\0")
+
+
 def off():
     """ "all zeros and an empty list" """
     guard = *salts(()), 0
     identity = bytes(6), bytes(3)
-    rest = bytes(6), bytes(2), 0, 0, bytes(5)
+    rest = bytes(6), bytes(2), bytes(FILTER_MAX), 0, 0, bytes(4)
     return (0, *IDLE * LINKS, *guard, *stored(pack(())), *name(b""), *identity, *rest)

@@ -28,6 +28,7 @@ NUMBERS = {
     "FP_NAME_MAX": 64,
     "FP_PACKET_MAX": 80,
     "FP_ADVERTISEMENT_MAX": 18,
+    "FP_FILTER_MAX": 9,
     "FP_RECORD_MAX": 1026,
     "FP_NOT_A_DEVICE": 255,
 }

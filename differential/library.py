@@ -1,5 +1,6 @@
 """The built library, called with the events of the reference."""
 
+import fcntl
 from ctypes import c_uint8
 
 from reference.rules import events
@@ -9,6 +10,7 @@ from reference.rules.recording import LENT
 from .bindings import bind, writer
 from .build import build
 from .guarded_memory import GuardedMemory, InterfaceViolation
+from .paths import FOLDER
 from .structs import FpAddress, FpElement, FpIdentity, FpStart
 
 CONFIRM = {0: None, 1: True, 2: False}
@@ -72,8 +74,11 @@ class Library:
 
 
 def load():
-    """The library, built from the archive."""
-    return Library(bind(build()))
+    """The library, built from the archive; by one process at a time, so that two can be run side by side."""
+    FOLDER.mkdir(parents=True, exist_ok=True)
+    with open(FOLDER / "lock", "w") as lock:
+        fcntl.flock(lock, fcntl.LOCK_EX)
+        return Library(bind(build()))
 
 
 def lent_outputs(event):

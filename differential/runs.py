@@ -40,11 +40,11 @@ class Tally:
         self.rare_cases.note(before, event, after, reply)
 
     def missed(self):
-        """The answers, stages, uses of keys, records and corrupted places that no run has reached."""
-        answers, stages, uses = not_reached(self.coverage)
+        """The answers, stages, situations, records and corrupted places that no run has reached."""
+        answers, stages, situations = not_reached(self.coverage)
         never_tried = self.any_bytes.never_tried() if self.any_bytes else []
         never_compared = self.records.missed() if self.records else []
-        return [*answers, *stages, *uses, *never_compared, *never_tried]
+        return [*answers, *stages, *situations, *never_compared, *never_tried]
 
     def corrupt(self, place, device, event):
         """A difference of corrupted devices, now and then in a run."""

@@ -2,7 +2,7 @@
 
 from unittest import mock
 
-from . import marked_lists, record_mistakes, result_mistakes, run_pair, use_mistakes
+from . import filter_mistakes, marked_lists, record_mistakes, result_mistakes, run_pair, use_mistakes
 from .any_bytes import AnyBytes
 from .compare import first_difference
 from .records import Records
@@ -72,6 +72,18 @@ MISTAKES = (
     ("fp_stored_list", result_mistakes.stored_list_byte, "stored list"),
     ("fp_stored_list", result_mistakes.stored_list_length, "stored list"),
     ("fp_stored_list", result_mistakes.short_list_written, "stored list"),
+    ("fp_address_rotated", filter_mistakes.kept_on_rotation, "state"),
+    ("fp_address_rotated", filter_mistakes.changed_on_4, "state"),
+    ("fp_account_key_write", filter_mistakes.kept_with_a_new_key, "state"),
+    ("fp_account_key_write", filter_mistakes.kept_on_eviction, "state"),
+    ("fp_account_key_write", filter_mistakes.evicted_bits_stay, "state"),
+    ("fp_account_key_write", filter_mistakes.bit_of_order, "state"),
+    ("fp_key_based_write", filter_mistakes.bit_of_order, "state"),
+    ("fp_factory_reset", filter_mistakes.kept_on_reset, "state"),
+    ("fp_power_on", filter_mistakes.kept_on_power_on, "state"),
+    ("fp_power_on", filter_mistakes.behind_filter, "state"),
+    ("fp_pairing_mode", filter_mistakes.emptied_by_mode, "state"),
+    ("fp_overflow", filter_mistakes.emptied, "state"),
     ("fp_advertisement", result_mistakes.filter_bit, "payload"),
     ("fp_advertisement", result_mistakes.prompt_shown, "payload"),
 )
@@ -82,6 +94,7 @@ WITH_ANY_BYTES = (
     ("fp_name_write", result_mistakes.no_device_changed, "any bytes"),
     ("fp_link_up", result_mistakes.unused_key_kept, "any bytes"),
     ("fp_link_up", result_mistakes.unused_name_bytes_kept, "any bytes"),
+    ("fp_link_up", filter_mistakes.mended, "any bytes"),
 )
 # These show in the record of one event, and there is no list either.
 WITH_RECORDS = (

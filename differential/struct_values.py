@@ -5,6 +5,8 @@ from ctypes import Array, Structure, c_uint8, c_uint32, c_uint64, sizeof
 
 from .structs import FpDevice
 
+# A stored list: a header of 4 bytes, and 16 for each key.
+KEYS_FROM, KEY = 4, 16
 CODES = {c_uint8: "B", c_uint32: "I", c_uint64: "Q"}
 
 
@@ -39,6 +41,12 @@ PACKING = packing(FpDevice)
 def values(device):
     """The values of an fp_device, in the order of NAMES."""
     return PACKING.unpack_from(device)
+
+
+def keys(device):
+    """The account keys of an fp_device, each as a list of its bytes."""
+    stored = device.stored
+    return [stored.bytes[place : place + KEY] for place in range(KEYS_FROM, stored.length, KEY)]
 
 
 def differing(ours, theirs):

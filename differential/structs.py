@@ -6,6 +6,7 @@ LINKS = 8
 MOST_SALTS = 16
 STORED_LIST_MAX = 84
 NAME_MAX = 64
+FILTER_MAX = 9
 
 
 class FpAddress(Structure):
@@ -57,9 +58,10 @@ class FpDevice(Structure):
         ("identity", FpIdentity),
         ("ble", FpAddress),
         ("salt", c_uint8 * 2),
+        ("filter", c_uint8 * FILTER_MAX),
         ("pairing", c_uint8),
         ("failures", c_uint8),
-        ("reserved", c_uint8 * 5),
+        ("reserved", c_uint8 * 4),
     ]
 
 

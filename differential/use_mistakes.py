@@ -2,21 +2,13 @@
 
 from .result_mistakes import answers
 from .run_pair import HELD_KEY, parts
-
-KEY = 16
-HEADER = 4
-
-
-def keys(device):
-    """The keys of an fp_device, each as a list of its bytes."""
-    stored = device.stored
-    return [stored.bytes[place : place + KEY] for place in range(HEADER, stored.length, KEY)]
+from .struct_values import KEYS_FROM, keys
 
 
 def put_keys(device, listed):
     """The same number of keys in another order, or with others among them."""
     stored = device.stored
-    stored.bytes[HEADER : stored.length] = [byte for key in listed for byte in key]
+    stored.bytes[KEYS_FROM : stored.length] = [byte for key in listed for byte in key]
 
 
 def move_to_end(device, place):

@@ -86,6 +86,13 @@
  * `next.name` with what you saved last (memcmp over the whole struct tells). A factory reset leaves an empty name, and the
  * maker's does not come back by itself: if you want it back, hand it in at the next power-on in place of an empty one.
  *
+ * Filter: the device keeps the account key filter that it advertises, `next.filter`. The core builds it anew when the
+ * salt or the keys change: at power-on, at a rotation, when a new key is stored, and at a factory reset, each with
+ * FP_TAKEN. No other event touches it. So fp_advertisement only copies it, and may be asked for as often as you like. You
+ * do not save the filter: power-on builds it. Nothing checks it when a device is handed in, since to check it is to build
+ * it: a device whose filter you changed advertises it so, and phones may not find their key, until one of these events.
+ * Hand in the device that the last call gave back, and the filter is right.
+ *
  * Secrets: an fp_device holds the session keys and the owners' account keys, and an fp_stored the account keys. Wipe every
  * old copy that you leave, with a function that the compiler does not remove (as explicit_bzero). The core does not wipe
  * the stack that its calls used.
@@ -119,10 +126,10 @@
 #include <stdint.h>
 
 /* The version of this interface; docs/CHANGES.md says what changed. */
-#define FP_VERSION "4.3.1"
+#define FP_VERSION "4.4.0"
 #define FP_VERSION_MAJOR 4
-#define FP_VERSION_MINOR 3
-#define FP_VERSION_PATCH 1
+#define FP_VERSION_MINOR 4
+#define FP_VERSION_PATCH 0
 
 #ifdef __cplusplus
 extern "C" {
@@ -176,6 +183,9 @@ enum { FP_LINKS = 8, FP_MAX_KEYS = 5, FP_MAX_SALTS = 16, FP_RESPONSE_SIZE = 16 }
 
 /* the longest stored list (five keys), and the longest advertisement (five keys): outputs of these sizes always do */
 enum { FP_STORED_LIST_MAX = 84, FP_ADVERTISEMENT_MAX = 18 };
+
+/* the longest account key filter (five keys) */
+enum { FP_FILTER_MAX = 9 };
 
 /* the longest name, and the longest packet with a name: a tag of 8 bytes, a nonce of 8, and the name encrypted */
 enum { FP_NAME_MAX = 64, FP_PACKET_MAX = 80 };
@@ -238,10 +248,10 @@ typedef struct {
  *
  * FP_NOT_A_DEVICE is the answer to a `stored` that is no stored list, a `name` that is none (a length above 64, or not
  * UTF-8), more than 16 salts, a remembered salt of other than 2 or 8 bytes, more than 10 failures, a stage above
- * FP_STAGE_PAIRED and a `pairing` above 1. Any other bytes are served by the rules as they stand. Not looked at, and zero
- * in the device that comes back: the fields of an idle link, salts past `count`, bytes of a salt, of the list and of the
- * name past their lengths, `failed_at` while `failures` is 0, and what is reserved. With FP_NOT_A_DEVICE every byte comes
- * back as it was. */
+ * FP_STAGE_PAIRED and a `pairing` above 1. Any other bytes are served by the rules as they stand, those of `filter` too: it
+ * is not compared with the keys and the salt (see "Filter" above). Not looked at, and zero in the device that comes back:
+ * the fields of an idle link, salts past `count`, bytes of a salt, of the list and of the name past their lengths,
+ * `failed_at` while `failures` is 0, and what is reserved. With FP_NOT_A_DEVICE every byte comes back as it was. */
 typedef struct {
     uint64_t clock;
     fp_session sessions[FP_LINKS];
@@ -252,9 +262,11 @@ typedef struct {
     fp_identity identity;
     fp_address ble;
     uint8_t salt[2];     /* of the advertised filter */
+    uint8_t filter[FP_FILTER_MAX]; /* the filter of the account keys with this salt, 3 + 6 n / 5 bytes for n keys, also
+                                      in pairing mode; the others are zero, and so are all without a key */
     uint8_t pairing;     /* 1 in pairing mode */
     uint8_t failures;    /* requests in a row that no key fitted */
-    uint8_t reserved[5];
+    uint8_t reserved[4];
 } fp_device;
 
 /* What power-on is given besides the stored list and the name. */
@@ -315,11 +327,11 @@ FP_LAYOUT(sizeof(fp_session) == 32 && offsetof(fp_session, key) == 13);
 FP_LAYOUT(sizeof(fp_spent_salts) == 152 && offsetof(fp_spent_salts, count) == 144);
 FP_LAYOUT(sizeof(fp_stored) == 96 && offsetof(fp_stored, bytes) == 8);
 FP_LAYOUT(sizeof(fp_name) == 72 && offsetof(fp_name, bytes) == 8);
-FP_LAYOUT(sizeof(fp_device) == 616 && offsetof(fp_device, spent) == 264);
-FP_LAYOUT(offsetof(fp_device, name) == 520 && offsetof(fp_device, failures) == 610);
+FP_LAYOUT(sizeof(fp_device) == 624 && offsetof(fp_device, spent) == 264);
+FP_LAYOUT(offsetof(fp_device, name) == 520 && offsetof(fp_device, filter) == 609 && offsetof(fp_device, failures) == 619);
 FP_LAYOUT(sizeof(fp_start) == 17 && sizeof(fp_element) == 33 && sizeof(fp_bond) == 7);
 FP_LAYOUT(sizeof(fp_reply) == 11 && offsetof(fp_reply, packet_length) == 3 && offsetof(fp_reply, bond) == 4);
-FP_LAYOUT(sizeof(fp_outcome) == 632 && sizeof(fp_report) == 16);
+FP_LAYOUT(sizeof(fp_outcome) == 640 && sizeof(fp_report) == 16);
 #undef FP_LAYOUT
 #endif
 
@@ -358,7 +370,8 @@ fp_outcome fp_overflow(fp_device device);
 /* `on` is 0 for off, and any other number for on. */
 fp_outcome fp_pairing_mode(fp_device device, uint8_t on, uint64_t clock);
 
-/* A new BLE address, and with it the new salt of the advertised filter: two random bytes, fresh at every rotation. */
+/* A new BLE address, and with it the new salt of the advertised filter: two random bytes, fresh at every rotation. With
+ * FP_TAKEN the filter is built anew. */
 fp_outcome fp_address_rotated(fp_device device, fp_address ble, const uint8_t salt[2], uint64_t clock);
 
 /* Forgets the owners' keys, the spent salts, the failures, every link's key and the name, which is empty then. With
@@ -423,7 +436,8 @@ fp_outcome fp_account_key_write(fp_device device, uint8_t link, uint64_t clock, 
 /* ---- questions: they change nothing and need no clock */
 
 /* The advertising data, one AD structure; `hide` is 0 to show the pairing prompt, and any other number to hide it. The
- * order of the keys changes no byte of it, so it is the same before and after an accepted request. */
+ * filter is the device's, copied: nothing is hashed. The order of the keys changes no byte of it, so it is the same before
+ * and after an accepted request. */
 fp_report fp_advertisement(fp_device device, uint8_t hide, uint8_t *out, size_t out_length);
 
 /* The stored list, for memory that lasts. */

@@ -47,6 +47,11 @@ class NameAsked:
 
 
 @dataclass(frozen=True)
+class FilterAsked:
+    """The account key filter that the device keeps."""
+
+
+@dataclass(frozen=True)
 class BroughtTo:
     """The events that bring a link to a stage; each of them has to be taken."""
 
@@ -250,6 +255,10 @@ def name_asked(fields):
     return NameAsked()
 
 
+def filter_asked(fields):
+    return FilterAsked()
+
+
 def new_recording(fields):
     return NewRecording()
 
@@ -308,6 +317,7 @@ KINDS = {
     "stored list": stored_list_asked,
     "payload": payload_asked,
     "name": name_asked,
+    "filter": filter_asked,
     "new recording": new_recording,
 }
 # Their first field is the kind of an event.

@@ -6,7 +6,7 @@ from reference.rules.events import Reply, lent_outputs
 from reference.rules.recording import field_sizes, recorded_values
 
 from .fields import TextError, as_bytes, as_name, as_number
-from .lines import OF_RECORDINGS, NameAsked, PayloadAsked, RecordAsked, Repeated, StoredListAsked
+from .lines import OF_RECORDINGS, FilterAsked, NameAsked, PayloadAsked, RecordAsked, Repeated, StoredListAsked
 
 REPLIES = {True: "yes", False: "no"}
 NO_NAME = "no name"
@@ -28,6 +28,8 @@ def in_words(result, asked):
     reply = result.reply
     if isinstance(asked, NameAsked):
         return name_in_words(reply.out)
+    if isinstance(asked, FilterAsked):
+        return reply.out.hex()
     if isinstance(asked, OF_RECORDINGS):
         return ", ".join(result.lines) or NO_LINE
     words = [str(reply.answer)]
@@ -56,6 +58,8 @@ def from_words(text, asked):
     """The result that the words say, for this event or question."""
     if isinstance(asked, NameAsked):
         return Result(Reply(0, out=b"" if text == NO_NAME else as_name(text)))
+    if isinstance(asked, FilterAsked):
+        return Result(Reply(0, out=as_bytes("filter", text)))
     if isinstance(asked, OF_RECORDINGS):
         return Result(Reply(0), lines=() if text == NO_LINE else tuple(text.split(", ")))
     answer, *rest = text.split(", ")

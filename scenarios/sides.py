@@ -4,6 +4,7 @@ from typing import Callable, NamedTuple
 
 from differential.guarded_memory import InterfaceViolation
 from reference.rules import advertising, lent_output, model, recording, replay, stored_list
+from reference.rules.device import MOST_KEYS
 from reference.rules.events import LENDING, Overflow, PowerOn, Reply
 from reference.rules.model import RESPONSE_SIZE
 
@@ -11,6 +12,7 @@ from .fields import TextError
 from .lines import (
     OF_RECORDINGS,
     BroughtTo,
+    FilterAsked,
     Lost,
     NameAsked,
     NewRecording,
@@ -21,6 +23,9 @@ from .lines import (
 )
 from .names import RECORD_ROOM, lent
 from .results import Result
+
+# A filter stands in the room of the longest one, and the rest of it is zero.
+FILTER_ROOM = advertising.filter_size(MOST_KEYS)
 
 
 class Rules(NamedTuple):
@@ -125,6 +130,8 @@ class SecondProgram(Side):
             return self.written(self.rules.advertisement(self.device, asked.hide), asked.out)
         if isinstance(asked, NameAsked):
             return Result(Reply(0, out=self.device.name))
+        if isinstance(asked, FilterAsked):
+            return Result(Reply(0, out=self.device.filter.ljust(FILTER_ROOM, b"\0")))
         self.device, reply = self.rules.step(self.device, asked)
         return event_result(asked, reply)
 
@@ -158,6 +165,8 @@ class BuiltLibrary(Side):
         if isinstance(asked, NameAsked):
             name = self.device.name
             return Result(Reply(0, out=bytes(name.bytes[: name.length])))
+        if isinstance(asked, FilterAsked):
+            return Result(Reply(0, out=bytes(self.device.filter)))
         self.device, reply = self.library.step(self.device, asked)
         return event_result(asked, reply)
 

@@ -107,13 +107,13 @@ def by_random_recordings(rules, runs, recordings):
 
 
 def step_shown(rules, device, event):
-    """The next device, and all that is seen of the step without reading the state."""
+    """The next device, and all that is seen of the step without reading the state of links and guard."""
     device, reply = rules.step(device, event)
     if device is None:
         return device, (reply,)
     payloads = (rules.advertisement(device, hide) for hide in (False, True))
     texts = rules.stored_list(device), *payloads
-    return device, (reply, device.name, *(written(rules, text) for text in texts))
+    return device, (reply, device.name, device.filter, *(written(rules, text) for text in texts))
 
 
 def written(rules, text):

@@ -31,16 +31,16 @@ def arguments():
 
 
 def main():
-    """The exit code: 1 if an answer, a stage or a use of a key was not reached."""
+    """The exit code: 1 if an answer, a stage, or a situation of uses or filters was not reached."""
     options = arguments()
     coverage, rare_cases, seconds = run(options.events, options.seed)
-    answers, stages, uses = not_reached(coverage)
+    answers, stages, situations = not_reached(coverage)
     print(table(coverage))
     for name, times in rare_cases.counts.items():
         print(f"{times:>7}  {name}")
-    print(f"answers not reached: {answers}; stages not reached: {stages}; uses not reached: {uses}")
+    print(f"answers not reached: {answers}; stages not reached: {stages}; situations not reached: {situations}")
     print(f"{options.events} events, seed {options.seed}: {seconds:.1f} s")
-    return 1 if answers or stages or uses else 0
+    return 1 if answers or stages or situations else 0
 
 
 if __name__ == "__main__":

@@ -1,9 +1,10 @@
-"""Counts what a run has reached: answers, answers of each kind of event, stages, uses of account keys."""
+"""Counts what a run has reached: answers, answers of each kind of event, stages, uses of account keys, kept filters."""
 
 from collections import Counter
 
 from ..rules.device import Stage
 from ..rules.events import KINDS
+from .filters import Filters
 from .uses import Uses
 
 ANSWERS = range(16)
@@ -17,6 +18,7 @@ class Coverage:
         self.pairs = Counter()
         self.stages = Counter()
         self.uses = Uses()
+        self.filters = Filters()
 
     def note(self, before, event, after, reply):
         """One event, the states around it, and its reply."""
@@ -25,6 +27,7 @@ class Coverage:
         for stage in stages_entered(before, after):
             self.stages[stage] += 1
         self.uses.note(before, event, after, reply)
+        self.filters.note(before, event, after, reply)
 
 
 def stages_entered(before, after):
@@ -36,10 +39,10 @@ def stages_entered(before, after):
 
 
 def not_reached(coverage):
-    """The answers, the stages and the uses that the run has not reached."""
+    """The answers, the stages, and the situations of uses and filters that the run has not reached."""
     answers = [answer for answer in ANSWERS if not coverage.answers[answer]]
     stages = [stage.value for stage in Stage if not coverage.stages[stage]]
-    return answers, stages, coverage.uses.missed()
+    return answers, stages, [*coverage.uses.missed(), *coverage.filters.missed()]
 
 
 def table(coverage):
@@ -52,5 +55,6 @@ def table(coverage):
     rows.append("all".ljust(20) + totals)
     stages = ", ".join(f"{stage.value} {coverage.stages[stage]}" for stage in Stage)
     rows.append("stages entered: " + stages)
-    rows += [f"{times:>7}  {name}" for name, times in coverage.uses.counts.items()]
+    situations = {**coverage.uses.counts, **coverage.filters.counts}
+    rows += [f"{times:>7}  {name}" for name, times in situations.items()]
     return "\n".join(rows)

@@ -3,7 +3,7 @@
 from ..rules.events import AddressRotated, FactoryReset, LinkDown, LinkUp, Overflow, PairingMode
 from . import power_on_events
 from .random_values import busy_link, link_number, weighted
-from .rates import DEVICE_EVENTS
+from .rates import DEVICE_EVENTS, SAME_SALT
 
 
 def device_event(random, device, history, clock):
@@ -34,7 +34,9 @@ def mode_off(random, device, history, clock):
 
 
 def rotation(random, device, history, clock):
-    return AddressRotated(random.randbytes(6), random.randbytes(2), clock)
+    ble, salt = random.randbytes(6), random.randbytes(2)
+    # Now and then the salt that is there; its own first byte decides.
+    return AddressRotated(ble, device.salt if salt[0] < 256 * SAME_SALT else salt, clock)
 
 
 def overflow(random, device, history, clock):

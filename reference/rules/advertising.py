@@ -1,4 +1,4 @@
-"""The advertising payload of document 01."""
+"""The advertising payload of document 01, with the filter that the device keeps: request (v) of document 02."""
 
 from hashlib import sha256
 
@@ -33,14 +33,15 @@ def account_key_filter(keys, salt):
     return bytes(filter_bytes)
 
 
-def account_data(keys, salt, hide):
+def account_data(keys, kept_filter, salt, hide):
     """The service data with pairing mode off."""
     # "Off, empty list: 00 00."
     if not keys:
         return b"\x00\x00"
     # "header (s times 16, plus 0 to show or 2 to hide the prompt, as the asker says)"
     header = filter_size(len(keys)) * 16 + (2 if hide else 0)
-    return bytes([0x00, header]) + account_key_filter(keys, salt) + bytes([SALT_HEADER]) + salt
+    # "the payload copies it in after its header byte and no longer builds it"
+    return bytes([0x00, header]) + kept_filter + bytes([SALT_HEADER]) + salt
 
 
 def advertisement(device, hide):
@@ -49,7 +50,7 @@ def advertisement(device, hide):
     if device.pairing_mode:
         data = device.model
     else:
-        data = account_data(device.keys, device.salt, hide)
+        data = account_data(device.keys, device.filter, device.salt, hide)
     # "length byte (of what follows)"
     follows = SERVICE_DATA + data
     return bytes([len(follows)]) + follows

@@ -1,5 +1,6 @@
 """The events of the whole device, and of links that come and go."""
 
+from .advertising import account_key_filter
 from .device import Device, drop, drop_all
 from .events import Reply, plain_reply
 from .name import is_name
@@ -17,7 +18,9 @@ def power_on(device, event):
     # "no device made; an earlier one stays as it was"
     if keys is None or not is_name(event.name):
         return device, Reply(14)
-    made = Device(tuple(keys), event.name, event.public, event.ble, event.model, event.salt)
+    # "it equals the filter built afresh from the list and salt, rotation, eviction, reset and power-on included"
+    kept = account_key_filter(keys, event.salt)
+    made = Device(tuple(keys), event.name, event.public, event.ble, event.model, event.salt, kept)
     return made, Reply(0)
 
 
@@ -33,10 +36,12 @@ def pairing_mode(device, event):
 
 def address_rotated(device, event):
     """ "(new BLE address and new 2-byte filter salt). Nothing else changes." """
-    return device.copy(ble=event.ble, salt=event.salt), plain_reply(event, 0)
+    kept = account_key_filter(device.keys, event.salt)
+    return device.copy(ble=event.ble, salt=event.salt, filter=kept), plain_reply(event, 0)
 
 
 def factory_reset(device, event):
     """ "Empties the key list and spent salts, drops every K, sets the count to 0." """
+    kept = account_key_filter((), device.salt)
     # Names are "emptied by factory reset".
-    return drop_all(device).copy(keys=(), name=b"", spent=(), failures=0), plain_reply(event, 0)
+    return drop_all(device).copy(keys=(), filter=kept, name=b"", spent=(), failures=0), plain_reply(event, 0)

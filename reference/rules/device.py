@@ -39,6 +39,8 @@ class Device:
     ble: bytes
     model: bytes
     salt: bytes
+    # "Keep it in the state": the filter of the keys with this salt.
+    filter: bytes
     links: tuple[Session | None, ...] = (None,) * LINKS
     clock: int = 0
     failures: int = 0

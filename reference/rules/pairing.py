@@ -1,6 +1,7 @@
 """The pairing, passkey and account key events, after the clock step."""
 
 from .account_keys import with_key
+from .advertising import account_key_filter
 from .aes import decrypt, encrypt
 from .device import Session, Stage, drop, hold
 from .events import Reply, plain_reply
@@ -113,4 +114,8 @@ def account_key_write(device, event):
     # "K is dropped whatever the answer from 0 or 9 to 12."
     device = drop(device, event.link)
     # "A use is being stored, being written again, or .."
-    return device.copy(keys=with_key(device.keys, key)), plain_reply(event, 0)
+    keys, kept = with_key(device.keys, key), device.filter
+    # "A change of order alone changes none of its bytes."
+    if key not in device.keys:
+        kept = account_key_filter(keys, device.salt)
+    return device.copy(keys=keys, filter=kept), plain_reply(event, 0)

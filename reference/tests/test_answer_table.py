@@ -2,6 +2,7 @@
 
 import unittest
 
+from ..rules.advertising import account_key_filter
 from ..rules.events import (
     AccountKeyWrite,
     AddressRotated,
@@ -231,7 +232,8 @@ class DeviceEvents(unittest.TestCase):
             self.assertEqual(self.tested.device, expected)
 
     def test_address_rotated(self):
-        expected = self.tested.device.copy(ble=b"\x09" * 6, salt=b"\x01\x02", clock=51)
+        kept = account_key_filter([KEY], b"\x01\x02")
+        expected = self.tested.device.copy(ble=b"\x09" * 6, salt=b"\x01\x02", filter=kept, clock=51)
         self.assertEqual(self.tested.send(AddressRotated(b"\x09" * 6, b"\x01\x02", 51)), 0)
         self.assertEqual(self.tested.device, expected)
         self.assertEqual(self.tested.request(KEY, 5, 51), 7)
@@ -244,7 +246,7 @@ class DeviceEvents(unittest.TestCase):
         self.assertEqual(self.tested.send(FactoryReset(52)), 0)
         device = self.tested.device
         self.assertEqual((device.keys, device.name, device.spent, device.failures), ((), b"", (), 0))
-        self.assertEqual((device.links, device.clock), ((None,) * 8, 52))
+        self.assertEqual((device.filter, device.links, device.clock), (bytes(3), (None,) * 8, 52))
         self.assertEqual((device.pairing_mode, device.ble, device.public), (True, BLE, PUBLIC))
         self.assertEqual(stored_list(device).hex(), "00020100")
 

@@ -2,17 +2,17 @@
 
 import unittest
 
+from ..generator import filters, uses
 from ..generator.coverage import Coverage, not_reached
-from ..generator.uses import NAMES
 from ..rules.events import Overflow, Reply
 
 
 class Covering(unittest.TestCase):
     def test_nothing_reached(self):
-        answers, stages, uses = not_reached(Coverage())
+        answers, stages, situations = not_reached(Coverage())
         self.assertEqual(answers, list(range(16)))
         self.assertEqual(stages, ["asked", "pairing", "confirming", "proved", "paired"])
-        self.assertEqual(uses, list(NAMES))
+        self.assertEqual(situations, [*uses.NAMES, *filters.NAMES])
 
     def test_counts(self):
         coverage = Coverage()

@@ -2,6 +2,7 @@
 
 import unittest
 
+from ..rules.advertising import account_key_filter
 from ..rules.device import Device
 from ..rules.events import PowerOn, Reply
 from ..rules.lent_output import write_stored_list
@@ -76,7 +77,7 @@ class StoredList(unittest.TestCase):
 class PowerOnFromList(unittest.TestCase):
     def test_taken(self):
         device, reply = step(None, power_on_from(pack(KEYS[:2])))
-        expected = Device(tuple(KEYS[:2]), NAME, PUBLIC, BLE, MODEL, FILTER_SALT)
+        expected = Device(tuple(KEYS[:2]), NAME, PUBLIC, BLE, MODEL, FILTER_SALT, account_key_filter(KEYS[:2], FILTER_SALT))
         self.assertEqual((device, reply), (expected, Reply(0)))
 
     def test_taken_again_starts_anew(self):
@@ -85,7 +86,7 @@ class PowerOnFromList(unittest.TestCase):
         tested.request(KEYS[0], clock=6)
         tested.request(KEYS[1], link=1, clock=7)
         self.assertEqual(tested.send(power_on_from(pack(KEYS[1:3]))), 0)
-        expected = Device(tuple(KEYS[1:3]), NAME, PUBLIC, BLE, MODEL, FILTER_SALT)
+        expected = Device(tuple(KEYS[1:3]), NAME, PUBLIC, BLE, MODEL, FILTER_SALT, account_key_filter(KEYS[1:3], FILTER_SALT))
         self.assertEqual(tested.device, expected)
 
     def test_malformed_makes_no_device(self):

@@ -7,6 +7,7 @@ Left out, because no events can tell them from the right rules:
 - 5 is given from a count of ten on: the count is never above ten;
 - our passkey is kept when a link has left confirming, and the moment of a stage without timer: nothing reads them;
 - a use leaves the last key of the list where it is: it stands at the end already;
+- the filter is built anew where neither the keys nor the salt have changed: it gets the bytes that it had;
 - a length of 0 or 1, or kind 0, is read as a marker record: it is shown as a marker and taken as one in any case;
 - a row of the UTF-8 table gets a first byte whose characters are in another row, or are read by an earlier one (`utf8.py`).
 """

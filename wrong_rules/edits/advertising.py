@@ -4,7 +4,7 @@ SIZE = "    return 6 * count // 5 + 3\n"
 PLACE = "    return m // 8, m % 8\n"
 NUMBER = 'int.from_bytes(digest[i : i + 4], "big")'
 HEADER = "filter_size(len(keys)) * 16 + (2 if hide else 0)"
-DATA = "bytes([0x00, header]) + account_key_filter(keys, salt) + bytes([SALT_HEADER]) + salt"
+DATA = "bytes([0x00, header]) + kept_filter + bytes([SALT_HEADER]) + salt"
 
 EDITS = (
     ("the filter has one byte less", SIZE, SIZE.replace("+ 3", "+ 2")),
@@ -41,9 +41,12 @@ EDITS = (
     (
         "the salt stands before the filter",
         DATA,
-        "bytes([0x00]) + bytes([SALT_HEADER]) + salt + bytes([header]) + account_key_filter(keys, salt)",
+        "bytes([0x00]) + bytes([SALT_HEADER]) + salt + bytes([header]) + kept_filter",
     ),
-    ("the salt is left out", DATA, "bytes([0x00, header]) + account_key_filter(keys, salt)"),
+    ("the salt is left out", DATA, "bytes([0x00, header]) + kept_filter"),
+    ("the payload shows the filter in reverse", DATA, DATA.replace("kept_filter", "kept_filter[::-1]")),
+    ("the payload shows the filter without its last byte", DATA, DATA.replace("kept_filter", "kept_filter[:-1]")),
+    ("the payload shows a filter of zeros", DATA, DATA.replace("kept_filter", "bytes(len(kept_filter))")),
     ("the first byte is left out", DATA, DATA.replace("[0x00, header]", "[header]")),
     ("an empty list has a filter", "    if not keys:\n", "    if False:\n"),
     ("an empty list gives 00 alone", 'return b"\\x00\\x00"', 'return b"\\x00"'),
@@ -60,7 +63,7 @@ EDITS = (
     ("the UUID is in reverse", r'b"\x16\x2c\xfe"', r'b"\x16\xfe\x2c"'),
     (
         "the public address is the salt",
-        "account_data(device.keys, device.salt, hide)",
-        "account_data(device.keys, device.public[:2], hide)",
+        "account_data(device.keys, device.filter, device.salt, hide)",
+        "account_data(device.keys, device.filter, device.public[:2], hide)",
     ),
 )

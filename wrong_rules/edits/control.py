@@ -5,11 +5,15 @@ REFUSED = "        return device, Reply(14)\n"
 TAKEN = "    return made, Reply(0)\n"
 CHANGED = "    return drop(device, event.link), plain_reply(event, 0)\n"
 MODE = "device.copy(pairing_mode=event.on)"
-ROTATED = "device.copy(ble=event.ble, salt=event.salt)"
-RESET = 'drop_all(device).copy(keys=(), name=b"", spent=(), failures=0)'
+ROTATED = "device.copy(ble=event.ble, salt=event.salt, filter=kept)"
+BUILT_ON_ROTATION = "account_key_filter(device.keys, event.salt)"
+RESET = 'drop_all(device).copy(keys=(), filter=kept, name=b"", spent=(), failures=0)'
+BUILT_ON_POWER_ON = "account_key_filter(keys, event.salt)"
 BAD = "    if keys is None or not is_name(event.name):\n"
 KEPT_IN_PROVED = 's if s and s.stage.value == "proved" else None'
-FIELDS = ("links", "clock", "failures", "spent", "pairing_mode", "keys", "name", "ble", "salt", "public", "model")
+FIELDS = (
+    "links", "clock", "failures", "spent", "pairing_mode", "keys", "name", "ble", "salt", "filter", "public", "model"
+)
 
 
 def marker(change):
@@ -41,6 +45,7 @@ EDITS = (
     ("the marker sets the clock to 0", MARKER, marker("clock=0")),
     ("the marker empties the list", MARKER, marker("keys=()")),
     ("the marker empties the name", MARKER, marker('name=b""')),
+    ("the marker empties the filter", MARKER, marker('filter=b""')),
     ("the marker uses the first key", MARKER, marker("keys=device.keys[1:] + device.keys[:1]")),
     (
         "a refused power-on drops every K",
@@ -87,6 +92,12 @@ EDITS = (
         REFUSED,
         '        return (device.copy(name=b"") if device else None), Reply(14)\n',
     ),
+    (
+        "a refused power-on builds the filter with its salt",
+        REFUSED,
+        "        kept = account_key_filter(device.keys, event.salt) if device else None\n"
+        "        return (device.copy(filter=kept) if device else None), Reply(14)\n",
+    ),
     ("a malformed list gets 0", REFUSED, REFUSED.replace("14", "0")),
     ("a bad name gets 15", REFUSED, REFUSED.replace("14", "14 if keys is None else 15")),
     ("a bad name at power-on is taken", BAD, "    if keys is None:\n"),
@@ -121,9 +132,16 @@ EDITS = (
     ),
     *((f"power-on keeps {field}", TAKEN, keeps(field)) for field in FIELDS),
     ("power-on uses the first key", "tuple(keys), event.name", "tuple(keys[1:] + keys[:1]), event.name"),
+    ("power-on makes an empty filter", BUILT_ON_POWER_ON, "account_key_filter((), event.salt)"),
+    ("power-on builds the filter of the first key", BUILT_ON_POWER_ON, "account_key_filter(keys[:1], event.salt)"),
+    (
+        "power-on builds the filter with the earlier salt",
+        BUILT_ON_POWER_ON,
+        "account_key_filter(keys, device.salt if device else event.salt)",
+    ),
     ("power-on exchanges the addresses", "event.public, event.ble", "event.ble, event.public"),
     ("power-on reverses the model ID", "event.model, event.salt", "event.model[::-1], event.salt"),
-    ("power-on reverses the filter salt", "event.model, event.salt", "event.model, event.salt[::-1]"),
+    ("power-on reverses the filter salt", "event.model, event.salt, kept", "event.model, event.salt[::-1], kept"),
     ("link up and down drop every K", CHANGED, CHANGED.replace("drop(device, event.link)", "drop_all(device)")),
     ("link up and down drop K of link 0", CHANGED, CHANGED.replace("event.link)", "0)")),
     (
@@ -133,19 +151,39 @@ EDITS = (
     ),
     ("pairing mode empties the name", MODE, 'device.copy(pairing_mode=event.on, name=b"")'),
     ("rotation empties the name", ROTATED, ROTATED.replace(")", ', name=b"")')),
+    ("pairing mode empties the filter", MODE, 'device.copy(pairing_mode=event.on, filter=b"")'),
+    (
+        "pairing mode on empties the filter, and off builds it",
+        MODE,
+        'device.copy(pairing_mode=event.on, filter=b"" if event.on else account_key_filter(device.keys, device.salt))',
+    ),
     ("pairing mode is only ever switched on", MODE, "device.copy(pairing_mode=True)"),
     ("pairing mode is inverted by each event", MODE, "device.copy(pairing_mode=not device.pairing_mode)"),
     ("pairing mode drops every K", MODE, "drop_all(device).copy(pairing_mode=event.on)"),
     ("pairing mode empties the salts", MODE, "device.copy(pairing_mode=event.on, spent=())"),
     ("pairing mode sets the count to 0", MODE, "device.copy(pairing_mode=event.on, failures=0)"),
-    ("rotation keeps the filter salt", ROTATED, "device.copy(ble=event.ble)"),
-    ("rotation keeps the address", ROTATED, "device.copy(salt=event.salt)"),
-    ("rotation changes the public address", ROTATED, "device.copy(public=event.ble, salt=event.salt)"),
-    ("rotation drops every K", ROTATED, "drop_all(device).copy(ble=event.ble, salt=event.salt)"),
+    ("rotation keeps the filter salt", ROTATED, ROTATED.replace("salt=event.salt, ", "")),
+    ("rotation keeps the address", ROTATED, ROTATED.replace("ble=event.ble, ", "")),
+    ("rotation changes the public address", ROTATED, ROTATED.replace("ble=event.ble", "public=event.ble")),
+    ("rotation drops every K", ROTATED, ROTATED.replace("device.copy", "drop_all(device).copy")),
+    ("rotation keeps the filter", ROTATED, ROTATED.replace(", filter=kept", "")),
+    ("rotation empties the filter", ROTATED, ROTATED.replace("filter=kept", 'filter=b""')),
+    (
+        "rotation in pairing mode keeps the filter",
+        ROTATED,
+        ROTATED.replace("filter=kept", "filter=device.filter if device.pairing_mode else kept"),
+    ),
+    ("rotation builds the filter with the old salt", BUILT_ON_ROTATION, "account_key_filter(device.keys, device.salt)"),
+    (
+        "rotation adds the bits of the new salt to the old ones",
+        ROTATED,
+        ROTATED.replace("filter=kept", "filter=bytes(a | b for a, b in zip(device.filter, kept))"),
+    ),
     ("rotation empties the salts", ROTATED, ROTATED.replace(")", ", spent=())")),
     ("rotation sets the count to 0", ROTATED, ROTATED.replace(")", ", failures=0)")),
     ("rotation ends pairing mode", ROTATED, ROTATED.replace(")", ", pairing_mode=False)")),
     ("a reset keeps the keys", RESET, RESET.replace("keys=(), ", "")),
+    ("a reset keeps the filter", RESET, RESET.replace("filter=kept, ", "")),
     ("a reset keeps the name", RESET, RESET.replace('name=b"", ', "")),
     ("a reset keeps the salts", RESET, RESET.replace("spent=(), ", "")),
     ("a reset keeps the count", RESET, RESET.replace(", failures=0", "")),

@@ -249,6 +249,7 @@ EDITS = (
         COUNTED,
         "device.copy(failures=device.failures + 1, failed_at=device.failed_at if device.failures else device.clock)",
     ),
+    ("an accepted request empties the filter", ACCEPTED, ACCEPTED.replace("failures=0", 'failures=0, filter=b""')),
     ("an accepted request leaves the count", ACCEPTED, ACCEPTED.replace(", failures=0", "")),
     (
         "an accepted request takes one from the count",

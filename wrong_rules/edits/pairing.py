@@ -20,6 +20,8 @@ PAIRED = "    answer = stage_refusal(device, event.link, Stage.PAIRED)\n"
 BAD_KEY = "        return refuse(device, event, 12)\n    # \"K is dropped"
 BAD_PASSKEY = "        return refuse(device, event, 12)\n    # \"bytes 1 to 3"
 TAKEN = "    device = drop(device, event.link)\n    # \"A use is"
+NEW_KEY = "    if key not in device.keys:\n"
+BUILT = "        kept = account_key_filter(keys, device.salt)\n"
 
 
 def keeps(answer):
@@ -194,6 +196,23 @@ EDITS = (
     ("an equal passkey uses K", PROVED, uses_k("        ") + PROVED),
     ("pairing success uses K", SUCCESS, uses_k("    ") + SUCCESS),
     ("a refused account key write uses K", BAD_KEY, uses_k("        ") + BAD_KEY),
+    ("a new key leaves the filter", NEW_KEY, "    if False:\n"),
+    ("a key that evicts leaves the filter", NEW_KEY, NEW_KEY.replace(":\n", " and len(device.keys) < 5:\n")),
+    ("a new key in pairing mode leaves the filter", NEW_KEY, NEW_KEY.replace(":\n", " and not device.pairing_mode:\n")),
+    ("the first key leaves the filter", NEW_KEY, NEW_KEY.replace(":\n", " and device.keys:\n")),
+    (
+        "a held key is given a filter of its own",
+        NEW_KEY,
+        "    if key in device.keys:\n        kept = account_key_filter((key,), device.salt)\n" + NEW_KEY,
+    ),
+    ("the filter is built without the new key", BUILT, BUILT.replace("(keys,", "(device.keys,")),
+    ("the filter is built of the new key alone", BUILT, BUILT.replace("(keys,", "((key,),")),
+    (
+        "the bits of the evicted key stay",
+        BUILT,
+        BUILT + "        if len(device.keys) == 5:\n"
+        "            kept = bytes(a | b for a, b in zip(device.filter, kept))\n",
+    ),
     (
         "the account key is stored as it was written",
         "with_key(device.keys, key)",

@@ -12,7 +12,7 @@ ghost use Rattle.account_keys.specs.Keys.{Valid, Kept, limit, held, kept
 ghost use Rattle.account_keys.specs.StoredList.{keyBytes, keysIn, noReading, readingOf, reading, writing};
 
 // The most keys that are held.
-const LIMIT: usize = 5;
+pub const LIMIT: usize = 5;
 // The keys that stay when one is removed from a full list.
 const LAST: usize = LIMIT - 1;
 

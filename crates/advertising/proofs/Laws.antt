@@ -12,11 +12,11 @@ use lib.Pow.{pow-lt}
 use lib.Seq.{take-all, getD-take, length-take-le, sets-eq, take-at, paste}
 use Rattle.laws.proofs.Filled.{getD-tabulate, tabulate-getD}
 use Rattle.laws.proofs.Folds.{fold-more, fold-keeps}
-use Rattle.laws.proofs.Lists.{take-set-more}
-use Rattle.account_keys.specs.Keys.{Kept, held}
+use Rattle.laws.proofs.Lists.{take-set-more, drop-replicate}
+use Rattle.account_keys.specs.Keys.{Kept, limit, held}
 use Rattle.account_keys.specs.declared.AccountKey.{AccountKey}
 use Rattle.account_keys.specs.declared.AccountKeys.{AccountKeys}
-use Rattle.advertising.specs.Filter.{filterSize, numberAt, numbers, withBit, placeOf, byteOf, bitOf, withNumber, withKey, filter}
+use Rattle.advertising.specs.Filter.{filterSize, numberAt, numbers, withBit, placeOf, byteOf, bitOf, withNumber, withKey, filter, filterMax, keptFilter}
 use Rattle.sha256.specs.Hash.{sha256}
 use Rattle.account_keys.proofs.Laws.{absentKey, take-held, count-held}
 
@@ -104,3 +104,16 @@ length-filter keys salt =
     let s : ℕ = filterSize (length keys) in
     fold-keeps (withKey s salt) (λ g. length g ≡ s) (λ f k. length-withKey s s salt f k) (replicate s 0) keys
     (length-replicate s 0)
+
+-- the filter of a list within the limit has room
+pub size-within : (n : ℕ) → n ≤ limit → filterSize n ≤ filterMax
+size-within n h = omega arith
+
+-- the filter built in front of a room of zeros
+pub kept-built : (ks : AccountKeys) → Kept ks → (salt : List ℕ) {p : List ℕ} {s : ℕ} → s ≡ filterSize (ks .count)
+    → p ≡ filter (held ks) salt → p ++ drop s (replicate filterMax 0) ≡ keptFilter (held ks) salt
+unfolding keptFilter
+kept-built ks v salt {p} {s} size e =
+    let long : s ≡ length (filter (held ks) salt) = size ∙ ap filterSize (count-held ks v) ∙ sym
+    (length-filter (held ks) salt) in
+    rw (e, drop-replicate {A = ℕ} s filterMax 0, long)

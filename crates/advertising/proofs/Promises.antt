@@ -1,25 +1,24 @@
--- The filter finds every key, and the order of the keys is free.
+-- The filter finds every key, the order of the keys is free, and a filter that is kept serves as well as one that is built.
 -- Assumes nothing.
-use mathlib.Core.List.{List, [], _∷_, _++_, foldl}
-use mathlib.Core.Path.{_≡_, sym, ap, subst, _∙_}
-use Prim.Native.Nat.{ℕ, _+_, _*_, _<_, _^_}
+use mathlib.Core.List.{List, _++_, foldl}
+use mathlib.Core.Path.{_≡_, refl, sym, ap, subst, _∙_}
+use Prim.Native.Nat.{ℕ, _<_, _^_}
 use native.Mathlib.Omega.{arith}
 use lib.Bits.{bitOr}
-use lib.Dec.{eqb}
-use lib.ListN.{length, getD, replicate, length-replicate}
+use lib.ListN.{length, take, getD, replicate, length-replicate}
 use lib.Seq.{getD-set-same}
 use Rattle.laws.proofs.All.{all-implies}
 use Rattle.laws.proofs.Folds.{fold-keeps, fold-all, fold-fold, fold-order}
 use Rattle.laws.proofs.Or.{or-sets-bit, set-or-keeps-bit, set-or-comm}
+use Rattle.laws.proofs.Padded.{take-padded, length-padded}
 use Rattle.laws.proofs.Permuted.{length-permuted}
-use Rattle.laws.specs.Choice.{if_then_else_}
-use Rattle.laws.specs.Lists.{All}
+use Rattle.laws.specs.Lists.{All, padded}
 use Rattle.account_keys.specs.declared.AccountKey.{AccountKey}
-use Rattle.advertising.specs.Filter.{filterSize, numbers, placeOf, byteOf, bitOf, withBit, withNumber, withKey, filter}
-use Rattle.advertising.specs.Payload.{promptType, structure, serviceData, payload}
-use Rattle.advertising.specs.Promises.{HasBit, EveryKeyIsFound, OrderIsFree, PayloadHidesOrder}
+use Rattle.advertising.specs.Filter.{filterSize, numbers, placeOf, byteOf, bitOf, withBit, withNumber, withKey, filter, filterMax, keptFilter}
+use Rattle.advertising.specs.Payload.{payloadWith, payload}
+use Rattle.advertising.specs.Promises.{HasBit, EveryKeyIsFound, OrderIsFree, PayloadHidesOrder, OrderKeepsCurrent, PayloadStays, KeptWithinRoom, NoKeysNoBits}
 use Rattle.sha256.specs.Hash.{sha256}
-use Rattle.advertising.proofs.Laws.{place-within, length-withNumber, length-withKey, length-filter}
+use Rattle.advertising.proofs.Laws.{place-within, length-withNumber, length-withKey, length-filter, size-within}
 
 -- ---- every key is found
 
@@ -98,10 +97,28 @@ order-is-free keys other salt p =
     (replicate (filterSize (length other)) 0)
 
 pub payload-hides-order : PayloadHidesOrder
-unfolding payload serviceData
+unfolding payload
 payload-hides-order pairing model keys other salt prompt p =
-    let n : length keys ≡ length other = length-permuted p in
-    let f : filter keys salt ≡ filter other salt = order-is-free keys other salt p in
-    λ i. structure (if pairing then model else
-    if eqb (n i) 0 then 0x00 ∷ 0x00 ∷ [] else
-    0x00 ∷ (filterSize (n i) * 16 + promptType prompt) ∷ (f i ++ (0x21 ∷ salt)))
+    λ i. payloadWith pairing model (length-permuted p i) (order-is-free keys other salt p i) salt prompt
+
+-- ---- the filter is kept
+
+pub order-keeps-current : OrderKeepsCurrent
+unfolding keptFilter
+order-keeps-current b keys other p e = e ∙ ap (padded filterMax 0) (order-is-free keys other (b .salt) p)
+
+pub payload-stays : PayloadStays
+unfolding payload keptFilter
+payload-stays b model keys prompt e =
+    let built : List ℕ = filter keys (b .salt) in
+    let shown : take (filterSize (length keys)) (b .filter) ≡ built = rw (e, ← length-filter keys (b .salt))
+    (take-padded filterMax 0 built) in
+    ap (λ (f : List ℕ). payloadWith (b .pairing) model (length keys) f (b .salt) prompt) shown
+
+pub kept-within-room : KeptWithinRoom
+unfolding keptFilter
+kept-within-room keys salt h = length-padded filterMax 0 (filter keys salt) (rw (length-filter keys salt) (size-within (length keys) h))
+
+pub no-keys-no-bits : NoKeysNoBits
+unfolding keptFilter filter
+no-keys-no-bits salt = refl

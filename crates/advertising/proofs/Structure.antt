@@ -2,27 +2,22 @@
 -- Assumes nothing.
 use mathlib.Core.Bool.{Bool, true, false}
 use mathlib.Core.List.{List, [], _∷_, _++_}
-use mathlib.Core.Path.{_≡_, sym, ap, ap₂, subst, _∙_}
-use Prim.Native.Nat.{ℕ, suc, _+_, _-_, _*_, _≤_, _<_}
+use mathlib.Core.Path.{_≡_, refl, sym, ap, subst, _∙_}
+use Prim.Native.Nat.{ℕ, suc, _+_, _*_, _≤_, _<_}
 use native.Mathlib.Numerals.{add-one, add-two}
 use native.Mathlib.Omega.{arith}
-use lib.ListN.{length, drop, set, getD, length-append, length-set}
-use lib.Seq.{sets, paste}
+use lib.ListN.{length, take, drop, set, getD, length-append, length-set}
+use lib.Seq.{sets, paste, length-take-le}
 use borrow.Author.Tests.{eq-eqb, ne-eqb}
-use borrow.Rule.Slice.PartMut.{putMid, midOf, same-len-mid}
 use Rattle.laws.proofs.Filled.{tabulate-getD}
 use Rattle.laws.proofs.Lists.{sets-paste}
-use Rattle.laws.proofs.Front.{front-sets, front-putMid, front-paste}
-use Rattle.account_keys.specs.Keys.{Kept, held}
-use Rattle.account_keys.specs.declared.AccountKeys.{AccountKeys}
-use Rattle.advertising.specs.Filter.{filterSize, filter}
-use Rattle.advertising.specs.Payload.{promptType, keysData, serviceData, structure, payload}
+use Rattle.laws.proofs.Front.{front-sets, front-paste}
+use Rattle.advertising.specs.Filter.{filterSize}
+use Rattle.advertising.specs.Payload.{promptType, keysData, serviceData, structure, payloadWith}
 use Rattle.advertising.specs.declared.Prompt.{Prompt}
 use Rattle.advertising.specs.declared.Prompt.the-variants.{Show, Hide}
 use Rattle.basics.specs.Output.{reportOf, placed, tooShort, written}
 use Rattle.basics.specs.declared.Report.{Report}
-use Rattle.account_keys.proofs.Laws.{count-held}
-use Rattle.advertising.proofs.Laws.{length-filter}
 use Rattle.basics.proofs.Lent.{left-alone, all-written}
 
 -- what holds of a text holds of its other name
@@ -44,11 +39,10 @@ pub promptType-small : (p : Prompt) → promptType p ≤ 2
 promptType-small Show = omega arith
 promptType-small Hide = omega arith
 
--- stores and a lent part keep the output's length
-pub length-lent : (o x p : List ℕ) (a b s : ℕ) → length x ≡ length o
-    → length p ≡ length (midOf 6 s (set (set x 4 a) 5 b)) → length (putMid 6 s (set (set x 4 a) 5 b) p)
-    ≡ length o
-length-lent o x p a b s e h = same-len-mid 6 s (set (set x 4 a) 5 b) p h ∙ simp length-set e
+-- stores and a copied part keep the output's length
+pub length-copied : (o x y : List ℕ) (a b : ℕ) → length x ≡ length o → length y ≡ length (set (set x 4 a) 5 b)
+    → length y ≡ length o
+length-copied o x y a b e h = h ∙ simp length-set e
 
 -- the stores that put the salt
 pub salt-stored : (l salt : List ℕ) (at : ℕ) → length salt ≡ 2 → at + 3 ≤ length l
@@ -57,66 +51,52 @@ salt-stored l salt at two h =
     rw (add-one, add-two) (sets-paste l at (0x21 ∷ getD salt 0 0 ∷ getD salt 1 0 ∷ []) h
     ∙ ap (λ (v : List ℕ). paste l at (0x21 ∷ v) 3) (tabulate-getD 2 salt 0 two))
 
--- keys, their number, the filter's size and the output
-module _ (ks : AccountKeys) (v : Kept ks) (salt : List ℕ) (two : length salt ≡ 2) (prompt : Prompt)
-    (o : List ℕ) {s : ℕ}
-    (size : s ≡ filterSize (ks .count)) where
-  size-held : s ≡ filterSize (length (held ks))
-  size-held = size ∙ ap filterSize (count-held ks v)
+-- the first s bytes of a kept filter, the salt and the output
+module _ (n : ℕ) (filter salt : List ℕ) (prompt : Prompt) (o : List ℕ) {s : ℕ} (size : s ≡ filterSize n)
+    (within : s ≤ length filter) (two : length salt ≡ 2) where
+  abbrev text : ℕ → List ℕ
+  text k = structure (keysData k (take k filter) salt prompt)
 
-  length-structure : length (structure (keysData (held ks) salt prompt)) ≡ 6 + s + 3
-  length-structure = rw (length-append (filter (held ks) salt) (0x21 ∷ salt), length-filter (held ks) salt, two, ← size-held)
-      (omega arith)
+  length-text : length (text s) ≡ 6 + s + 3
+  length-text = rw (length-append (take s filter) (0x21 ∷ salt), length-take-le s filter within, two) (omega arith)
 
   pub structure-no-room : {r : Report} → length o < 6 + s + 3 → r ≡ tooShort
-      → (r ≡ reportOf (structure (keysData (held ks) salt prompt)) o) ×
-      (o ≡ placed (structure (keysData (held ks) salt prompt)) o)
-  structure-no-room h e = left-alone (structure (keysData (held ks) salt prompt)) o (omega (arith, length-structure)) e
+      → (r ≡ reportOf (text (filterSize n)) o) × (o ≡ placed (text (filterSize n)) o)
+  structure-no-room h e = sent-as o (ap text size) (left-alone (text s) o (omega (arith, length-text)) e)
 
-  structure-is : {p : List ℕ} {t : ℕ} → t ≡ promptType prompt → p ≡ filter (held ks) salt
-      → (((s + 8) ∷ 0x16 ∷ 0x2C ∷ 0xFE ∷ 0x00 ∷ (s * 16 + t) ∷ []) ++ p) ++ (0x21 ∷ salt)
-      ≡ structure (keysData (held ks) salt prompt)
-  structure-is f g =
-      let count : s + 8 ≡ 3 + length (keysData (held ks) salt prompt) = omega (arith, length-structure) in
-      rw (f, g)
-      (ap₂ (λ (a h : ℕ). a ∷ 0x16 ∷ 0x2C ∷ 0xFE ∷ 0x00 ∷ (h * 16 + promptType prompt) ∷
-      (filter (held ks) salt ++ (0x21 ∷ salt))) count size-held)
-
-  -- the header, the filter in its place, and the salt
-  pub structure-written : {x p : List ℕ} {r : Report} {t : ℕ} → 6 + s + 3 ≤ length o → x ≡
-      (s + 8) ∷ 0x16 ∷ 0x2C ∷ 0xFE ∷ drop 4 o
-      → t ≡ promptType prompt → p ≡ filter (held ks) salt → {y : List ℕ}
-      → y ≡ paste (putMid 6 (6 + s - 6) (set (set x 4 0) 5 (s * 16 + t)) p) (6 + s) (0x21 ∷ salt) 3 → r
-      ≡ written (6 + s + 3)
-      → (r ≡ reportOf (structure (keysData (held ks) salt prompt)) o) ×
-      (y ≡ placed (structure (keysData (held ks) salt prompt)) o)
-  structure-written {x} {p} {r} {t} h e f g d w =
+  -- the header, the filter copied behind it, and the salt
+  pub structure-written : {x y z : List ℕ} {r : Report} {t : ℕ} → 6 + s + 3 ≤ length o
+      → x ≡ (s + 8) ∷ 0x16 ∷ 0x2C ∷ 0xFE ∷ drop 4 o → t ≡ promptType prompt
+      → y ≡ paste (set (set x 4 0) 5 (s * 16 + t)) 6 (take s filter) (length (take s filter))
+      → z ≡ paste y (6 + s) (0x21 ∷ salt) 3 → r ≡ written (6 + s + 3)
+      → (r ≡ reportOf (text (filterSize n)) o) × (z ≡ placed (text (filterSize n)) o)
+  structure-written {y = y} {t = t} h e f g d w =
       let four : List ℕ = (s + 8) ∷ 0x16 ∷ 0x2C ∷ 0xFE ∷ [] in
       let six : List ℕ = four ++ (0x00 ∷ (s * 16 + t) ∷ []) in
-      let size-part : length p ≡ 6 + s - 6 = rw (g, length-filter (held ks) salt, ← size-held) (omega arith) in
-      let end : 6 + s ≡ length (six ++ p) = omega arith in
+      let part : length (take s filter) ≡ s = length-take-le s filter within in
+      let end : 6 + s ≡ length (six ++ take s filter) = omega (arith, part) in
       let begun = front-sets o four e (0x00 ∷ (s * 16 + t) ∷ []) (omega arith) in
-      let filled = front-putMid o six begun p (6 + s - 6) size-part in
-      let ended = front-paste o (six ++ p) filled (0x21 ∷ salt) 3 (ap suc two) in
-      let text : (six ++ p) ++ (0x21 ∷ salt) ≡ structure (keysData (held ks) salt prompt) = structure-is f g in
-      let count : length ((six ++ p) ++ (0x21 ∷ salt)) ≡ 6 + s + 3 = ap length text ∙ length-structure in
-      sent-as o text (all-written ((six ++ p) ++ (0x21 ∷ salt)) o (omega (arith, count)) w (sym count)
-      (d ∙ ap (λ (n : ℕ). paste (putMid 6 (6 + s - 6) (set (set x 4 0) 5 (s * 16 + t)) p) n (0x21 ∷ salt) 3)
-      end ∙ ended))
+      let copied = g ∙ front-paste o six begun (take s filter) (length (take s filter)) refl in
+      let ended = d ∙ ap (λ (k : ℕ). paste y k (0x21 ∷ salt) 3) end
+      ∙ front-paste o (six ++ take s filter) copied (0x21 ∷ salt) 3 (ap suc two) in
+      let rest : s + 8 ≡ 3 + length (keysData s (take s filter) salt prompt) = omega (arith, length-text) in
+      let whole : (six ++ take s filter) ++ (0x21 ∷ salt) ≡ text s = rw f (ap (λ (a : ℕ). a ∷ 0x16 ∷ 0x2C ∷ 0xFE ∷ 0x00 ∷
+      (s * 16 + promptType prompt) ∷ (take s filter ++ (0x21 ∷ salt))) rest) in
+      let count : length ((six ++ take s filter) ++ (0x21 ∷ salt)) ≡ 6 + s + 3 = ap length whole ∙ length-text in
+      sent-as o (whole ∙ ap text size)
+      (all-written ((six ++ take s filter) ++ (0x21 ∷ salt)) o (omega (arith, count)) w (sym count) ended)
 
 -- the three cases of the service data
-module _ (pairing : Bool) (model : List ℕ) (ks : AccountKeys) (v : Kept ks) (salt : List ℕ)
-    (prompt : Prompt) where
-  pub payload-in-pairing : pairing ≡ true → structure model ≡ payload pairing model (held ks) salt prompt
-  unfolding payload serviceData
+module _ (pairing : Bool) (model : List ℕ) (n : ℕ) (f salt : List ℕ) (prompt : Prompt) where
+  pub payload-in-pairing : pairing ≡ true → structure model ≡ payloadWith pairing model n f salt prompt
+  unfolding serviceData
   payload-in-pairing e = rw e
 
-  pub payload-no-keys : pairing ≡ false → ks .count ≡ 0 → structure (0x00 ∷ 0x00 ∷ []) ≡ payload pairing model
-      (held ks) salt prompt
-  unfolding payload serviceData
-  payload-no-keys e n = rw (e, eq-eqb (length (held ks)) 0 (sym (count-held ks v) ∙ n))
+  pub payload-no-keys : pairing ≡ false → n ≡ 0 → structure (0x00 ∷ 0x00 ∷ []) ≡ payloadWith pairing model n f salt prompt
+  unfolding serviceData
+  payload-no-keys e z = rw (e, eq-eqb n 0 z)
 
-  pub payload-keys : pairing ≡ false → (ks .count ≡ 0 → ⊥)
-      → structure (keysData (held ks) salt prompt) ≡ payload pairing model (held ks) salt prompt
-  unfolding payload serviceData
-  payload-keys e n = rw (e, ne-eqb (length (held ks)) 0 (λ z. n (count-held ks v ∙ z)))
+  pub payload-keys : pairing ≡ false → (n ≡ 0 → ⊥)
+      → structure (keysData (filterSize n) f salt prompt) ≡ payloadWith pairing model n f salt prompt
+  unfolding serviceData
+  payload-keys e z = rw (e, ne-eqb n 0 z)

@@ -1,11 +1,13 @@
--- Document 01, "Advertising": the account key filter.
+-- Document 01, "Advertising": the account key filter; document 02 (v): as it is kept.
 -- Assumes nothing.
 use mathlib.Core.List.{List, _++_, foldl}
 use Prim.Native.Nat.{ℕ, _+_, _*_, _/_, _%_, _^_}
 use lib.Bits.{bitOr}
 use lib.ListN.{length, set, getD, replicate}
 use Rattle.laws.specs.BigEndian.{number4}
+use Rattle.laws.specs.Lists.{padded}
 use Rattle.laws.specs.Tabulate.{tabulate}
+use Rattle.account_keys.specs.Keys.{limit}
 use Rattle.account_keys.specs.declared.AccountKey.{AccountKey}
 use Rattle.sha256.specs.Hash.{sha256}
 
@@ -51,3 +53,12 @@ unfoldable pub filter : List AccountKey → List ℕ → List ℕ
 filter keys salt =
     let s = filterSize (length keys) in
     foldl (withKey s salt) (replicate s 0) keys
+
+-- the most bytes that a filter has
+abbrev pub filterMax : ℕ
+filterMax = filterSize limit
+
+-- document 02 (v): "Keep it in the state". "the filter built afresh from the list and salt", in a room for the longest one; the
+-- unused bytes are zero
+unfoldable pub keptFilter : List AccountKey → List ℕ → List ℕ
+keptFilter keys salt = padded filterMax 0 (filter keys salt)

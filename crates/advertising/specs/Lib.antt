@@ -1,3 +1,4 @@
+pub mod Beacon
 pub mod Filter
 pub mod Payload
 pub mod Promises

@@ -1,16 +1,24 @@
-// The advertising payload and its account key filter: document 01, "Advertising".
+// The advertising payload and the account key filter that it shows: document 01, "Advertising"; document 02 (v), the filter is kept.
 use account_keys::AccountKeys;
+use account_keys::LIMIT;
+use basics::Address;
 use basics::Report;
 ghost use mathlib.Core.Path.{_≡_};
 ghost use mathlib.Core.List.{[], _∷_, _++_, foldl};
 ghost use Prim.Native.Nat.{_+_, _<_, _≤_};
-ghost use lib.ListN.{length, drop, replicate};
+ghost use lib.ListN.{length, take, drop, replicate};
 ghost use lib.Seq.{paste};
 ghost use Rattle.basics.specs.Output.{reportOf, placed};
 ghost use Rattle.sha256.specs.Hash.{sha256};
 ghost use Rattle.account_keys.specs.Keys.{Kept, limit, held};
-ghost use Rattle.advertising.specs.Filter.{filterSize, numberAt, withNumber, numbers, filter};
+ghost use Rattle.advertising.specs.Beacon as rule;
+ghost use Rattle.advertising.specs.Beacon.{beaconPayload};
+ghost use Rattle.advertising.specs.Filter as filters;
+ghost use Rattle.advertising.specs.Filter.{filterSize, numberAt, withNumber, numbers, keptFilter};
 ghost use Rattle.advertising.specs.Payload as spec;
+
+// The most bytes that a filter has: specs/Filter.antt, `filterMax`.
+pub const FILTER_MAX: usize = 6 * LIMIT / 5 + 3;
 
 // Whether a phone that finds its key shows the prompt.
 pub enum Prompt {
@@ -18,27 +26,92 @@ pub enum Prompt {
     Hide,
 }
 
-// What the provider sends, written to `out` if all of it has room there.
-pub fn payload(
-    pairing: bool,
-    model: [u8; 3],
-    keys: AccountKeys,
-    salt: [u8; 2],
-    prompt: Prompt,
-    out: &mut [u8],
-) -> Report
-    requires { ⌜ Kept keys ⌝ }
-    ensures { λ r. ⌜ r ≡ reportOf (spec.payload pairing model (held keys) salt prompt) (now (out .entry)) ⌝ }
-    ensures { λ r. ⌜ now (out .exit) ≡ placed (spec.payload pairing model (held keys) salt prompt) (now (out .entry)) ⌝ }
-{
-    if pairing {
-        return model_payload(model, out);
+// What the advertisement shows, and rotation changes. The filter is that of the device's keys with this salt; its unused bytes are
+// zero.
+pub struct Beacon {
+    pub ble: Address,
+    pub salt: [u8; 2],
+    pub filter: [u8; FILTER_MAX],
+    pub pairing: bool,
+}
+
+impl Beacon {
+    // Before any device was made: zeros.
+    pub fn off() -> Beacon
+        ensures { λ r. ⌜ r ≡ rule.off ⌝ }
+    {
+        Beacon {
+            ble: Address { bytes: [0u8; 6] },
+            salt: [0u8; 2],
+            filter: [0u8; FILTER_MAX],
+            pairing: false,
+        }
     }
-    let n = keys.count;
-    if n == 0 {
-        return empty_payload(out);
+
+    // At power-on.
+    pub fn new(ble: Address, salt: [u8; 2], keys: AccountKeys) -> Beacon
+        requires { ⌜ Kept keys ⌝ }
+        ensures { λ r. ⌜ r ≡ rule.started ble salt (held keys) ⌝ }
+    {
+        Beacon {
+            ble: ble,
+            salt: salt,
+            filter: built(keys, salt),
+            pairing: false,
+        }
     }
-    keys_payload(keys, salt, prompt, out)
+
+    // A new salt makes other bits of the same keys.
+    pub fn rotated(self, ble: Address, salt: [u8; 2], keys: AccountKeys) -> Beacon
+        requires { ⌜ Kept keys ⌝ }
+        ensures { λ r. ⌜ r ≡ rule.rotated self ble salt (held keys) ⌝ }
+    {
+        Beacon {
+            ble: ble,
+            salt: salt,
+            filter: built(keys, salt),
+            pairing: self.pairing,
+        }
+    }
+
+    // Other keys, with the same salt.
+    pub fn with_keys(mut self, keys: AccountKeys) -> Beacon
+        requires { ⌜ Kept keys ⌝ }
+        ensures { λ r. ⌜ r ≡ rule.withKeys self (held keys) ⌝ }
+    {
+        let salt = self.salt;
+        let filter = built(keys, salt);
+        self.filter = filter;
+        self
+    }
+
+    // The same if the keys have changed; their order alone shows in no bit.
+    pub fn refreshed(self, changed: bool, keys: AccountKeys) -> Beacon
+        requires { ⌜ Kept keys ⌝ }
+        ensures { λ r. ⌜ r ≡ rule.refreshed self changed (held keys) ⌝ }
+    {
+        if !changed {
+            return self;
+        }
+        self.with_keys(keys)
+    }
+
+    // What the provider sends, written to `out` if all of it has room there; `count` is the number of keys.
+    pub fn payload(self, model: [u8; 3], count: usize, prompt: Prompt, out: &mut [u8]) -> Report
+        requires { ⌜ count ≤ limit ⌝ }
+        ensures { λ r. ⌜ r ≡ reportOf (beaconPayload self model count prompt) (now (out .entry)) ⌝ }
+        ensures { λ r. ⌜ now (out .exit) ≡ placed (beaconPayload self model count prompt) (now (out .entry)) ⌝ }
+    {
+        if self.pairing {
+            return model_payload(model, out);
+        }
+        if count == 0 {
+            return empty_payload(out);
+        }
+        let filter = self.filter;
+        let salt = self.salt;
+        keys_payload(count, filter, salt, prompt, out)
+    }
 }
 
 // In pairing mode: the model ID.
@@ -70,14 +143,19 @@ fn empty_payload(out: &mut [u8]) -> Report
     basics::written(6)
 }
 
-// With keys: their filter, built in its place, and the salt.
-fn keys_payload(keys: AccountKeys, salt: [u8; 2], prompt: Prompt, out: &mut [u8]) -> Report
-    requires { ⌜ Kept keys ⌝ }
-    ensures { λ r. ⌜ r ≡ reportOf (spec.structure (spec.keysData (held keys) salt prompt)) (now (out .entry)) ⌝ }
-    ensures { λ r. ⌜ now (out .exit) ≡ placed (spec.structure (spec.keysData (held keys) salt prompt)) (now (out .entry)) ⌝ }
+// With keys: their filter, copied in, and the salt.
+fn keys_payload(
+    count: usize,
+    filter: [u8; FILTER_MAX],
+    salt: [u8; 2],
+    prompt: Prompt,
+    out: &mut [u8],
+) -> Report
+    requires { ⌜ count ≤ limit ⌝ }
+    ensures { λ r. ⌜ r ≡ reportOf (spec.structure (spec.keysData (filterSize count) (take (filterSize count) filter) salt prompt)) (now (out .entry)) ⌝ }
+    ensures { λ r. ⌜ now (out .exit) ≡ placed (spec.structure (spec.keysData (filterSize count) (take (filterSize count) filter) salt prompt)) (now (out .entry)) ⌝ }
 {
-    let n = keys.count;
-    let s = filter_size(n);
+    let s = filter_size(count);
     let e = 6 + s;
     if out.len() < e + 3 {
         return basics::too_short();
@@ -85,7 +163,7 @@ fn keys_payload(keys: AccountKeys, salt: [u8; 2], prompt: Prompt, out: &mut [u8]
     begin(out, (s + 8) as u8);
     out[4] = 0x00;
     out[5] = (s * 16) as u8 + prompt_type(prompt);
-    build_filter(&mut out[6..e], keys, salt);
+    basics::copy(out, 6, &filter[..s]);
     put_salt(out, e, salt);
     basics::written(e + 3)
 }
@@ -117,10 +195,22 @@ fn filter_size(n: usize) -> usize
     6 * n / 5 + 3
 }
 
+// The filter of these keys with this salt, built in the room where it is kept.
+fn built(keys: AccountKeys, salt: [u8; 2]) -> [u8; FILTER_MAX]
+    requires { ⌜ Kept keys ⌝ }
+    ensures { λ r. ⌜ r ≡ keptFilter (held keys) salt ⌝ }
+{
+    let n = keys.count;
+    let s = filter_size(n);
+    let mut filter = [0u8; FILTER_MAX];
+    build_filter(&mut filter[..s], keys, salt);
+    filter
+}
+
 // One salt serves all keys.
 fn build_filter(out: &mut [u8], keys: AccountKeys, salt: [u8; 2])
     requires { ⌜ Kept keys × (length (now out) ≡ filterSize (keys .count)) ⌝ }
-    ensures { λ r. ⌜ now (out .exit) ≡ filter (held keys) salt ⌝ }
+    ensures { λ r. ⌜ now (out .exit) ≡ filters.filter (held keys) salt ⌝ }
 {
     clear(out);
     let n = keys.count;

@@ -1,4 +1,4 @@
--- Calls are steps; and demand 3 of calls: what holds of the rules holds of what firmware sees of them.
+-- Calls are steps; demand 3 and the payload of calls: what holds of the rules holds of what firmware sees of them.
 -- Assumes nothing.
 use mathlib.Core.Bool.{Bool, true, false}
 use mathlib.Core.List.{List, [], _∷_}
@@ -10,10 +10,11 @@ use Rattle.account_keys.specs.StoredList.{storedListMax}
 use Rattle.account_keys.specs.declared.AccountKey.{AccountKey}
 use Rattle.basics.proofs.Answers.{number-taken}
 use Rattle.basics.specs.Answers.{answerNumber}
+use Rattle.basics.specs.Output.{reportOf, placed}
 use Rattle.packed.proofs.ReadsBack.{packed-reads-back}
-use Rattle.capi.specs.Calls.{served, lentBack, returned}
-use Rattle.capi.specs.Demands.{CallIsStep, afterCalls, CallsAreSteps, calls, CallsOnlyTakeAway}
-use Rattle.packed.specs.Packed.{packed, packedReply, packedOutcome, isDevice, deviceOf}
+use Rattle.capi.specs.Calls.{served, lentBack, returned, noReport, told, writtenTo}
+use Rattle.capi.specs.Demands.{CallIsStep, afterCalls, CallsAreSteps, calls, CallsOnlyTakeAway, AdvertisesAfresh, CallsAdvertiseAfresh}
+use Rattle.packed.specs.Packed.{packed, packedReply, packedOutcome, packedReport, isDevice, deviceOf}
 use Rattle.packed.specs.declared.FpDevice.{FpDevice}
 use Rattle.packed.specs.declared.FpOutcome.{FpOutcome}
 use Rattle.packed.specs.declared.FpReply.{FpReply}
@@ -21,9 +22,12 @@ use Rattle.laws.proofs.Padded.{take-padded}
 use Rattle.laws.specs.Choice.{if_then_else_}
 use Rattle.names.specs.Name.{textOf}
 use Rattle.provider.proofs.Theorems.Gap.{gap-only-takes-away}
-use Rattle.provider.proofs.Theorems.Validity.{stays-valid, starts-valid}
+use Rattle.provider.proofs.Theorems.KeptFilter.{filter-kept}
+use Rattle.provider.proofs.Theorems.Validity.{stays-valid, starts-valid, after-valid}
 use Rattle.provider.specs.Demands.Gap.{Marked, done, same, added, rules, Lists, Stores, Alike, Lost, Compared, Parting, TwoRuns, QuietUntilRequest, AfterMarkers}
+use Rattle.provider.specs.Demands.KeptFilter.{payloadAfresh}
 use Rattle.provider.specs.Demands.Validity.{Valid, written}
+use Rattle.provider.specs.Rules.Control.{advertised}
 use Rattle.provider.specs.Rules.Event.{Event, Overflow, PowerOn, step, next, answerOf, after}
 use Rattle.provider.specs.declared.Device.{Device}
 
@@ -173,3 +177,34 @@ calls-only-take-away f stored name start h es fs m =
     let v : Valid s = starts-valid d stored name start taken in
     let r = gap-only-takes-away d stored name start taken es fs m in
     rw (t .0) (two-runs m s s v v (r .0), after-markers es s v (r .1), after-markers fs s v (r .2))
+
+-- ---- the payload
+
+-- what is told and written goes by the text of the device that was read
+module _ (f : FpDevice) (text other : Device → List ℕ) (e : text (deviceOf f) ≡ other (deviceOf f)) (out : List ℕ) where
+  told-as : told f text out ≡ told f other out
+  unfolding told
+  told-as = ap (λ (t : List ℕ). if isDevice f then packedReport (reportOf t out) else noReport) e
+
+  written-as : writtenTo f text out ≡ writtenTo f other out
+  unfolding writtenTo
+  written-as = ap (λ (t : List ℕ). if isDevice f then placed t out else out) e
+
+pub calls-advertise-afresh : CallsAdvertiseAfresh
+calls-advertise-afresh f stored name start h es prompt =
+    let t = taken-is-device f (PowerOn stored name start) h in
+    let d = deviceOf f in
+    let taken = number-taken (answerOf d (PowerOn stored name start)) (t .1) in
+    let s = next d (PowerOn stored name start) in
+    let v : Valid s = starts-valid d stored name start taken in
+    let c = after s es in
+    let back = packed-reads-back c (after-valid es s v) in
+    let same : advertised (deviceOf (packed c)) prompt ≡ payloadAfresh (deviceOf (packed c)) prompt =
+    rw (back .1) (filter-kept d stored name start taken es .1 prompt) in
+    let hands : packed c ≡ afterCalls (served f (PowerOn stored name start) .next) es = sym
+    (ap (λ (g : FpDevice). afterCalls g es) (t .0) ∙ calls-are-steps s es v) in
+    subst (λ (g : FpDevice). AdvertisesAfresh g prompt) hands
+    (λ out. (
+      told-as (packed c) (λ d. advertised d prompt) (λ d. payloadAfresh d prompt) same out,
+      written-as (packed c) (λ d. advertised d prompt) (λ d. payloadAfresh d prompt) same out,
+    ))

@@ -4,12 +4,15 @@ use mathlib.Core.List.{List, [], _∷_}
 use mathlib.Core.Path.{_≡_}
 use Prim.Native.Nat.{ℕ}
 use lib.ListN.{take}
-use Rattle.capi.specs.Calls.{served, lentBack}
+use Rattle.advertising.specs.declared.Prompt.{Prompt}
+use Rattle.capi.specs.Calls.{served, lentBack, told, writtenTo}
 use Rattle.packed.specs.Packed.{packed, packedOutcome}
 use Rattle.packed.specs.declared.FpDevice.{FpDevice}
 use Rattle.packed.specs.declared.FpReply.{FpReply}
 use Rattle.provider.specs.Demands.Gap.{Observed, OnlyTakesAway}
+use Rattle.provider.specs.Demands.KeptFilter.{payloadAfresh}
 use Rattle.provider.specs.Demands.Validity.{Valid}
+use Rattle.provider.specs.Rules.Control.{advertised}
 use Rattle.provider.specs.Rules.Event.{Event, PowerOn, step, after}
 use Rattle.provider.specs.declared.Device.{Device}
 use Rattle.provider.specs.declared.Start.{Start}
@@ -46,3 +49,16 @@ abbrev pub CallsOnlyTakeAway : Type 0
 CallsOnlyTakeAway =
     (f : FpDevice) (stored name : List ℕ) (start : Start) → served f (PowerOn stored name start) .reply .answer ≡ 0
     → OnlyTakesAway calls (served f (PowerOn stored name start) .next)
+
+-- asked for the payload, what C holds gives document 01's, whose filter is built afresh
+abbrev pub AdvertisesAfresh : FpDevice → Prompt → Type 0
+AdvertisesAfresh f prompt =
+    (out : List ℕ) → (told f (λ d. advertised d prompt) out ≡ told f (λ d. payloadAfresh d prompt) out)
+    × (writtenTo f (λ d. advertised d prompt) out ≡ writtenTo f (λ d. payloadAfresh d prompt) out)
+
+-- document 02 (v) of calls, from any bytes on: it does so whatever calls follow a taken power-on
+abbrev pub CallsAdvertiseAfresh : Type 0
+CallsAdvertiseAfresh =
+    (f : FpDevice) (stored name : List ℕ) (start : Start) → served f (PowerOn stored name start) .reply .answer ≡ 0
+    → (es : List Event) (prompt : Prompt)
+    → AdvertisesAfresh (afterCalls (served f (PowerOn stored name start) .next) es) prompt

@@ -6,7 +6,6 @@ use Prim.Native.Nat.{ℕ, _+_, _-_, _≤_}
 use native.Mathlib.Omega.{arith}
 use lib.ListN.{length, take, drop, length-append, length-drop}
 use lib.Seq.{paste, sets, sets-eq, take-append-seam, drop-append-add, drop-drop}
-use borrow.Rule.Slice.PartMut.{putMid}
 use Rattle.laws.proofs.Lists.{paste-at}
 
 module _ {A : Type 0} (o a : List A) {x : List A} (e : x ≡ a ++ drop (length a) o) where
@@ -21,14 +20,6 @@ module _ {A : Type 0} (o a : List A) {x : List A} (e : x ≡ a ++ drop (length a
       (drop (length a) o) ∙ rw (length-drop (length a) o) in
       let front : take (length a) x ≡ a = rw e (take-append-seam a (drop (length a) o)) in
       sets-eq vs x (length a) (omega arith) ∙ rw (front, drop-behind (length vs), length-append a vs)
-
-  -- by a part that is lent and filled
-  pub front-putMid : (p : List A) (n : ℕ) → length p ≡ n → putMid (length a) n x p ≡ (a ++ p) ++ drop
-      (length (a ++ p)) o
-  front-putMid p n h =
-      let front : take (length a) x ≡ a = rw e (take-append-seam a (drop (length a) o)) in
-      let rest : drop n (drop (length a) x) ≡ drop (length a + n) o = drop-drop n (length a) x ∙ drop-behind n in
-      rw (front, rest, length-append a p, h) (sym (append-assoc a p (drop (length a + n) o)))
 
   -- by a copy
   pub front-paste : (s : List A) (n : ℕ) → length s ≡ n → paste x (length a) s n ≡ (a ++ s) ++ drop

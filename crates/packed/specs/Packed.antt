@@ -112,9 +112,10 @@ packed d =
       identity = d .identity;
       ble = d .beacon .ble;
       salt = d .beacon .salt;
+      filter = d .beacon .filter;
       pairing = flag (d .beacon .pairing);
       failures = d .guard .failures .count;
-      reserved = replicate 5 0;
+      reserved = replicate 4 0;
     }
 
 abbrev pub guardOf : FpDevice → Guard
@@ -129,7 +130,7 @@ numbersKnown f = bounded (guardOf f) and stagesKnown (f .sessions) and leb (f .p
 unfoldable pub isDevice : FpDevice → Bool
 isDevice f = isWellFormed (listOf (f .stored) .form) and readAgain (f .name) .good and numbersKnown f
 
--- the device that they are, with its keys and its name
+-- the device that they are, with its keys and its name; the filter is taken as it stands, since to check it is to build it
 abbrev pub withParts : FpDevice → AccountKeys → Name → Device
 withParts f keys name =
     record {
@@ -138,7 +139,7 @@ withParts f keys name =
       sessions = linksOf (f .sessions);
       guard = cleaned (guardOf f);
       identity = f .identity;
-      beacon = record { ble = f .ble; salt = f .salt; pairing = eqb (f .pairing) 1 };
+      beacon = record { ble = f .ble; salt = f .salt; filter = f .filter; pairing = eqb (f .pairing) 1 };
       name = name;
     }
 

@@ -4,6 +4,7 @@ pub mod pack;
 pub mod unpack;
 
 use account_keys::STORED_LIST_MAX;
+use advertising::FILTER_MAX;
 use basics::Address;
 use basics::Moment;
 use key_based::Bond;
@@ -43,9 +44,10 @@ pub struct FpDevice {
     pub identity: Identity,
     pub ble: Address,
     pub salt: [u8; 2],
+    pub filter: [u8; FILTER_MAX],
     pub pairing: u8,
     pub failures: u8,
-    pub reserved: [u8; 5],
+    pub reserved: [u8; 4],
 }
 
 // All that an answer hands out; `confirm` is 0 where the radio is asked nothing, 1 for yes, 2 for no; `packet` is the length of the

@@ -32,6 +32,7 @@ pub fn pack(device: Device) -> FpDevice
     let identity = device.identity;
     let ble = device.beacon.ble;
     let salt = device.beacon.salt;
+    let filter = device.beacon.filter;
     let name = device.name;
     FpDevice {
         clock: clock,
@@ -43,9 +44,10 @@ pub fn pack(device: Device) -> FpDevice
         identity: identity,
         ble: ble,
         salt: salt,
+        filter: filter,
         pairing: flag(device.beacon.pairing),
         failures: device.guard.failures.count,
-        reserved: [0u8; 5],
+        reserved: [0u8; 4],
     }
 }
 

@@ -8,9 +8,9 @@ use account_keys::AccountKeys;
 use account_keys::ListForm;
 use account_keys::Reading;
 use account_keys::STORED_LIST_MAX;
+use advertising::Beacon;
 use key_based::Element;
 use names::Name;
-use provider::Beacon;
 use provider::Device;
 use request_guard::Failures;
 use request_guard::Guard;
@@ -81,6 +81,7 @@ fn with_parts(from: FpDevice, keys: AccountKeys, name: Name) -> Device
     let identity = from.identity;
     let ble = from.ble;
     let salt = from.salt;
+    let filter = from.filter;
     let clock = from.clock;
     Device {
         clock: clock,
@@ -91,6 +92,7 @@ fn with_parts(from: FpDevice, keys: AccountKeys, name: Name) -> Device
         beacon: Beacon {
             ble: ble,
             salt: salt,
+            filter: filter,
             pairing: from.pairing == 1,
         },
         name: name,

@@ -8,7 +8,7 @@ use lib.Dec.{eqb, ltb}
 use lib.ListN.{length, drop, getD, replicate}
 use Rattle.laws.specs.BigEndian.{bytes, number3}
 use Rattle.laws.specs.Choice.{if_then_else_, _or_}
-use Rattle.account_keys.specs.Keys.{held, kept, stored, zeroKey}
+use Rattle.account_keys.specs.Keys.{held, kept, member, stored, zeroKey}
 use Rattle.account_keys.specs.declared.AccountKey.{AccountKey}
 use Rattle.account_keys.specs.declared.AccountKeys.{AccountKeys}
 use Rattle.additional_data.specs.Packet.{opened}
@@ -243,6 +243,10 @@ writtenKey (NameWrite packet) s = zeroKey
 -- the account keys after the event
 abbrev pub storedIn : SessionOutcome → AccountKeys → AccountKeys
 storedIn a ks = if a .stores then kept (stored (held ks) (a .key)) else ks
+
+-- whether the event stores a key that is not held: one that is held only moves
+abbrev pub addsTo : SessionOutcome → AccountKeys → Bool
+addsTo a ks = if a .stores then not (member (held ks) (a .key)) else false
 
 -- the name after the event
 abbrev pub renamedIn : SessionOutcome → Name → Name

@@ -53,6 +53,18 @@ impl SessionOutcome {
         keys.store(key)
     }
 
+    // Whether the event stores a key that is not held: one that is held only moves.
+    pub fn adds_to(self, keys: AccountKeys) -> bool
+        requires { ⌜ Kept keys ⌝ }
+        ensures { λ r. ⌜ r ≡ rule.addsTo self keys ⌝ }
+    {
+        if !self.stores {
+            return false;
+        }
+        let key = self.key;
+        !keys.holds(key)
+    }
+
     // The device's name after the event.
     pub fn renamed_in(self, name: Name) -> Name
         ensures { λ r. ⌜ r ≡ rule.renamedIn self name ⌝ }

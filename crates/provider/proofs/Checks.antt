@@ -10,10 +10,15 @@ use lib.ListN.{length}
 use borrow.Author.Tests.{lt-ltb, le-ltb, ltb-false}
 use Rattle.laws.proofs.Choice.{true-is}
 use Rattle.laws.specs.Choice.{if_then_else_}
-use Rattle.account_keys.specs.Keys.{Kept, kept}
+use Rattle.account_keys.proofs.Laws.{Kept-kept}
+use Rattle.account_keys.proofs.ReadBack.{reads-valid}
+use Rattle.account_keys.proofs.Storing.{stores-kept}
+use Rattle.account_keys.specs.Keys.{Kept, held, kept, stored}
 use Rattle.account_keys.specs.declared.AccountKeys.{AccountKeys}
 use Rattle.account_keys.specs.StoredList.{reading}
 use Rattle.account_keys.specs.declared.ListForm.the-variants.{WellFormed, Malformed}
+use Rattle.advertising.specs.Beacon as beacon
+use Rattle.advertising.specs.declared.Beacon.{Beacon}
 use Rattle.basics.specs.Answers.{isTaken}
 use Rattle.basics.specs.declared.Answer.{Answer}
 use Rattle.basics.specs.declared.Answer.the-variants.{Taken, UnknownLink, WrongLength, ClockWentBack, OutputTooShort, ListMalformed}
@@ -31,7 +36,7 @@ use Rattle.pairing.specs.Pairing as pairing
 use Rattle.pairing.specs.declared.SessionOutcome.{SessionOutcome}
 use Rattle.provider.specs.Demands.Validity.{Valid}
 use Rattle.provider.specs.Rules.Control.{powerOn, named, started, factoryReset}
-use Rattle.provider.specs.Rules.Device.{Effect, given, answers, takes, dropAll, dropAt, withSessions, withGuard, withKeys, withName, clockStep, inTime, onKnownLink, checkedOf}
+use Rattle.provider.specs.Rules.Device.{Effect, given, answers, takes, dropAll, dropAt, withSessions, withGuard, withKeys, withBeacon, withName, clockStep, inTime, onKnownLink, checkedOf}
 use Rattle.provider.specs.Rules.Event.{LinkEvent, KeyBasedWrite, OnLink, OnSession, lentOnLink, early, earlyOnSession, requestSize, responseRoom, contextOf, requested, applied, onLink, step}
 use Rattle.provider.specs.declared.Checked.{Checked}
 use Rattle.provider.specs.declared.Device.{Device}
@@ -272,8 +277,26 @@ module _ (d : Device) (b n : List ℕ) (s : Start) where
   list-malformed e = rw e
 
 -- what factory reset empties
-pub emptied : (d : Device) {ks : AccountKeys} {ss : Sessions} {g : Guard} {n : Name} → ks ≡ kept [] → ss ≡ allIdle
+pub emptied : (d : Device) {ks : AccountKeys} {ss : Sessions} {g : Guard} {b : Beacon} {n : Name} → ks ≡ kept [] → ss ≡ allIdle
     → g ≡ guards.fresh
+    → b ≡ beacon.withKeys (d .beacon) (held ks)
     → n ≡ noName
-    → given (withName (withKeys (withGuard (withSessions d ss) g) ks) n) Taken ≡ given (factoryReset d) Taken
-emptied d e f h k = λ i. given (withName (withKeys (withGuard (withSessions d (f i)) (h i)) (e i)) (k i)) Taken
+    → given (withBeacon (withName (withKeys (withGuard (withSessions d ss) g) ks) n) b) Taken ≡ given (factoryReset d) Taken
+emptied d e f h s k =
+    let shown = s ∙ ap (λ (ks : AccountKeys). beacon.withKeys (d .beacon) (held ks)) e in
+    λ i. given (withBeacon (withName (withKeys (withGuard (withSessions d (f i)) (h i)) (e i)) (k i)) (shown i)) Taken
+
+-- the list that power-on read, and the one with no key
+pub list-kept : (stored : List ℕ) → reading stored .form ≡ WellFormed → Kept (reading stored .keys)
+list-kept stored h = reads-valid stored h .canonical
+
+pub none-kept : {ks : AccountKeys} → ks ≡ kept [] → Kept ks
+none-kept e = rw e (Kept-kept [] (omega arith))
+
+-- the keys after an account key
+pub stored-kept : (a : SessionOutcome) (ks : AccountKeys) → Kept ks → Kept (pairing.storedIn a ks)
+stored-kept a ks v = go (a .stores)
+  where
+    go : (b : Bool) → Kept (if b then kept (stored (held ks) (a .key)) else ks)
+    go true = stores-kept ks (a .key) v
+    go false = v

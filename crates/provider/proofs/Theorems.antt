@@ -1,9 +1,11 @@
 -- The theorems about the rules: a proof of each statement in specs/Demands.
+pub mod Adding
 pub mod Advertised
 pub mod AfterMarker
 pub mod AnswerTable
 pub mod EventPairs
 pub mod Gap
+pub mod KeptFilter
 pub mod LinksApart
 pub mod Names
 pub mod OrderOfUse

@@ -3,6 +3,7 @@ mod links;
 
 use account_keys::AccountKeys;
 use account_keys::ListForm;
+use advertising::Beacon;
 use advertising::Prompt;
 use basics::Address;
 use basics::Answer;
@@ -16,14 +17,13 @@ use request_guard::Guard;
 use sessions::Sessions;
 ghost use mathlib.Core.Path.{_≡_};
 ghost use mathlib.Core.List.{[]};
-ghost use Rattle.account_keys.specs.Keys.{held};
+ghost use Rattle.account_keys.specs.Keys.{Kept, held};
 ghost use Rattle.account_keys.specs.StoredList.{writing};
 ghost use Rattle.basics.specs.Output.{reportOf, placed};
 ghost use Rattle.provider.specs.Demands.Validity.{Valid};
 ghost use Rattle.provider.specs.Rules.Control as control;
 ghost use Rattle.provider.specs.Rules.Control.{advertised};
 ghost use Rattle.provider.specs.Rules.Device.{given, takes, clockStep, dropAll, inTime, onKnownLink, checkedOf};
-ghost use Rattle.provider.specs.Rules.Device as device;
 ghost use Rattle.provider.specs.Rules.Event.{step, Overflow, PowerOn, OnDevice, PairingMode, AddressRotated, FactoryReset};
 
 // All that an answer hands out.
@@ -42,13 +42,6 @@ pub struct Reply {
 pub struct Identity {
     pub public: Address,
     pub model: [u8; 3],
-}
-
-// What the advertisement shows and rotation changes.
-pub struct Beacon {
-    pub ble: Address,
-    pub salt: [u8; 2],
-    pub pairing: bool,
 }
 
 pub struct Device {
@@ -86,21 +79,16 @@ impl Device {
     pub fn off() -> Device
         ensures { λ r. ⌜ r ≡ control.off ⌝ }
     {
-        let none = Address { bytes: [0u8; 6] };
         Device {
             clock: Moment(0),
             keys: AccountKeys::none(),
             sessions: Sessions::all_idle(),
             guard: Guard::new(),
             identity: Identity {
-                public: none,
+                public: Address { bytes: [0u8; 6] },
                 model: [0u8; 3],
             },
-            beacon: Beacon {
-                ble: none,
-                salt: [0u8; 2],
-                pairing: false,
-            },
+            beacon: Beacon::off(),
             name: Name::none(),
         }
     }
@@ -122,6 +110,7 @@ impl Device {
 
     // Power-on with these keys, if the name is one.
     fn named(self, keys: AccountKeys, name: &[u8], start: Start) -> Outcome
+        requires { ⌜ Kept keys ⌝ }
         ensures { λ r. ⌜ r ≡ control.named self keys (now (name .entry)) start .gives ⌝ }
     {
         let reading = names::read(name);
@@ -162,13 +151,9 @@ impl Device {
             return checked.outcome;
         }
         self = checked.outcome.next;
-        let pairing = self.beacon.pairing;
-        let beacon = Beacon {
-            ble: ble,
-            salt: salt,
-            pairing: pairing,
-        };
-        self.beacon = beacon;
+        let beacon = self.beacon;
+        let keys = self.keys;
+        self.beacon = beacon.rotated(ble, salt, keys);
         self.answers(Answer::Taken)
     }
 
@@ -181,9 +166,12 @@ impl Device {
             return checked.outcome;
         }
         self = checked.outcome.next;
+        let keys = AccountKeys::none();
+        let beacon = self.beacon;
         self.sessions = Sessions::all_idle();
         self.guard = Guard::new();
-        self.keys = AccountKeys::none();
+        self.keys = keys;
+        self.beacon = beacon.with_keys(keys);
         self.name = Name::none();
         self.answers(Answer::Taken)
     }
@@ -195,9 +183,8 @@ impl Device {
         ensures { λ r. ⌜ now (out .exit) ≡ placed (advertised self prompt) (now (out .entry)) ⌝ }
     {
         let model = self.identity.model;
-        let keys = self.keys;
-        let salt = self.beacon.salt;
-        advertising::payload(self.beacon.pairing, model, keys, salt, prompt, out)
+        let beacon = self.beacon;
+        beacon.payload(model, self.keys.count, prompt, out)
     }
 
     // The stored list, for memory that lasts. Asking changes nothing and needs no clock.
@@ -282,6 +269,7 @@ impl Device {
 }
 
 fn started(keys: AccountKeys, name: Name, start: Start) -> Device
+    requires { ⌜ Kept keys ⌝ }
     ensures { λ r. ⌜ r ≡ control.started keys name start ⌝ }
 {
     let identity = start.identity;
@@ -293,11 +281,7 @@ fn started(keys: AccountKeys, name: Name, start: Start) -> Device
         sessions: Sessions::all_idle(),
         guard: Guard::new(),
         identity: identity,
-        beacon: Beacon {
-            ble: ble,
-            salt: salt,
-            pairing: false,
-        },
+        beacon: Beacon::new(ble, salt, keys),
         name: name,
     }
 }

@@ -181,12 +181,15 @@ impl Device {
     {
         let sessions = self.sessions;
         let keys = self.keys;
+        let beacon = self.beacon;
         let session = outcome.session;
         let answer = outcome.answer;
         let confirm = outcome.confirm;
         let name = self.name;
+        let stored = outcome.stored_in(keys);
         self.sessions = sessions.with(link, session);
-        self.keys = outcome.stored_in(keys);
+        self.keys = stored;
+        self.beacon = beacon.refreshed(outcome.adds_to(keys), stored);
         self.name = outcome.renamed_in(name);
         Outcome {
             next: self,

@@ -3,7 +3,9 @@
 use crate::hex::line;
 use account_keys::AccountKey;
 use account_keys::AccountKeys;
+use advertising::Beacon;
 use advertising::Prompt;
+use basics::Address;
 ghost use mathlib.Core.Path.{_≡_};
 ghost use mathlib.Core.List.{[]};
 ghost use Rattle.account_keys.specs.Keys.{Kept, Valid, held, kept, stored};
@@ -43,13 +45,7 @@ fn payload(name: &[u8], keys: AccountKeys)
     requires { ⌜ Kept keys ⌝ }
 {
     let mut out = [0xEEu8; 24];
-    advertising::payload(
-        false,
-        [0x12, 0x34, 0x56],
-        keys,
-        [0xC7, 0xC8],
-        Prompt::Show,
-        &mut out,
-    );
+    let beacon = Beacon::new(Address { bytes: [0u8; 6] }, [0xC7, 0xC8], keys);
+    beacon.payload([0x12, 0x34, 0x56], keys.count, Prompt::Show, &mut out);
     line(name, &out);
 }

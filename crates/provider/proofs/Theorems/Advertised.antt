@@ -1,24 +1,22 @@
 -- The order of the list shows in no payload.
 -- Assumes nothing.
-use mathlib.Core.Bool.{Bool, true, false}
-use mathlib.Core.List.{List}
-use mathlib.Core.Path.{_≡_, refl, sym, ap, _∙_}
+use mathlib.Core.List.{List, List·Permᴰ}
+use mathlib.Core.Path.{_≡_, refl, sym, ap₂}
 use Prim.Native.Nat.{ℕ}
-use Rattle.account_keys.proofs.Laws.{held-kept, stored-held}
-use Rattle.account_keys.proofs.Use.{use-permutes}
+use Rattle.laws.proofs.Permuted.{length-permuted}
 use Rattle.account_keys.specs.Keys as keys
-use Rattle.account_keys.specs.Keys.{held, member, used, stored}
+use Rattle.account_keys.specs.Keys.{held}
 use Rattle.account_keys.specs.declared.AccountKey.{AccountKey}
-use Rattle.advertising.proofs.Promises.{payload-hides-order}
-use Rattle.advertising.specs.Payload.{payload}
+use Rattle.account_keys.specs.declared.AccountKeys.{AccountKeys}
+use Rattle.advertising.specs.Beacon.{refreshed, beaconPayload}
+use Rattle.advertising.specs.declared.Beacon.{Beacon}
 use Rattle.advertising.specs.declared.Prompt.{Prompt}
-use Rattle.key_based.proofs.Deciding.{Way}
 use Rattle.key_based.specs.Decision.{usedIn, decided}
 use Rattle.key_based.specs.declared.Element.{Element}
 use Rattle.pairing.proofs.SessionSteps.{step-lawful}
-use Rattle.pairing.specs.Pairing.{sessionStep, storedIn}
+use Rattle.pairing.specs.Pairing.{sessionStep, storedIn, addsTo}
 use Rattle.pairing.specs.declared.SessionOutcome.{SessionOutcome}
-use Rattle.provider.proofs.Theorems.Stores.{member-stored, stores-new}
+use Rattle.provider.proofs.Theorems.Adding.{used-permutes, stored-permutes, beacon-stays, stores-none-adds-none}
 use Rattle.provider.proofs.Theorems.ValidParts.{clockStep-valid}
 use Rattle.provider.proofs.Theorems.Validity.{stored-valid}
 use Rattle.provider.proofs.Theorems.Ways as event
@@ -27,44 +25,35 @@ use Rattle.provider.specs.Demands.Gap.{Lists}
 use Rattle.provider.specs.Demands.Use.{OrderNotAdvertised, RequestKeepsPayload}
 use Rattle.provider.specs.Demands.Validity.{Valid, written}
 use Rattle.provider.specs.Rules.Control.{advertised}
-use Rattle.provider.specs.Rules.Device.{Effect, withKeys, clockStep}
-use Rattle.provider.specs.Rules.Event.{LinkEvent, LinkUp, LinkDown, KeyBasedWrite, OnSession, OnLink, contextOf, requested, onLink, next}
+use Rattle.provider.specs.Rules.Device.{Effect, withKeys, withBeacon, clockStep}
+use Rattle.provider.specs.Rules.Event.{LinkEvent, LinkUp, LinkDown, KeyBasedWrite, OnSession, OnLink, contextOf, requested, withStored, onLink, next}
 use Rattle.provider.specs.declared.Device.{Device}
 use Rattle.sessions.specs.Sessions.{sessionAt}
 
--- a use shows nowhere
-used-advertised : (c : Device) (uses : Bool) (key : List ℕ) (prompt : Prompt) → keys.Valid (c .keys)
-    → advertised (withKeys c (usedIn uses key (c .keys))) prompt ≡ advertised c prompt
-used-advertised c true key prompt v =
-    let k : AccountKey = record { bytes = key } in
-    ap (λ (l : List AccountKey). payload (c .beacon .pairing) (c .identity .model) l (c .beacon .salt) prompt)
-    (held-kept (used (held (c .keys)) k))
-    ∙ sym (payload-hides-order (c .beacon .pairing) (c .identity .model) (held (c .keys)) (used (held (c .keys)) k)
-    (c .beacon .salt) prompt (use-permutes (held (c .keys)) k (v .known)))
-used-advertised c false key prompt v = refl
+-- as many keys in the same beacon
+same-payload : (c : Device) (ks : AccountKeys) (b : Beacon) (prompt : Prompt) → List·Permᴰ (held (c .keys)) (held ks) → b ≡ c .beacon
+    → advertised (withBeacon (withKeys c ks) b) prompt ≡ advertised c prompt
+same-payload c ks b prompt p e =
+    ap₂ (λ (x : Beacon) (n : ℕ). beaconPayload x (c .identity .model) n prompt) e (sym (length-permuted p))
 
+-- a request only uses a key
 request-advertised : (c : Device) (l t : ℕ) (request : List ℕ) (element : Element) (prompt : Prompt) → keys.Valid (c .keys)
     → advertised (requested c l (decided (contextOf c) (sessionAt (c .sessions) l) t element request) .next) prompt
     ≡ advertised c prompt
 request-advertised c l t request element prompt v =
     let r = decided (contextOf c) (sessionAt (c .sessions) l) t element request in
-    used-advertised c (r .uses) (r .session .key) prompt v
+    same-payload c (usedIn (r .uses) (r .session .key) (c .keys)) (c .beacon) prompt
+    (used-permutes (r .uses) (r .session .key) (c .keys) v) refl
 
 -- a key that was held is used, and another one is stored
 session-advertised : (c : Device) (a : SessionOutcome) (prompt : Prompt) → keys.Valid (c .keys)
     → keys.Valid (storedIn a (c .keys))
     → ((k : AccountKey) → (Lists (written (withKeys c (storedIn a (c .keys)))) k × (Lists (written c) k → ⊥)) → ⊥)
-    → advertised (withKeys c (storedIn a (c .keys))) prompt ≡ advertised c prompt
-session-advertised c a prompt v w none = go (a .stores) (member (held (c .keys)) (a .key)) refl refl
-  where
-    go : (x y : Bool) → a .stores ≡ x → member (held (c .keys)) (a .key) ≡ y
-        → advertised (withKeys c (storedIn a (c .keys))) prompt ≡ advertised c prompt
-    go false y p q = rw p
-    go true true p q =
-        rw (p, ← stored-held (c .keys) (a .key) (v .canonical) q) (used-advertised c true (a .key .bytes) prompt v)
-    go true false p q = absurd (none (a .key) (stores-new (c .keys) (storedIn a (c .keys)) (a .key) v w
-        (rw p (ap (λ (l : List AccountKey). member l (a .key)) (held-kept (stored (held (c .keys)) (a .key)))
-        ∙ member-stored (held (c .keys)) (a .key))) q))
+    → advertised (withStored c a) prompt ≡ advertised c prompt
+session-advertised c a prompt v w none =
+    let same = stores-none-adds-none c a v w none in
+    same-payload c (storedIn a (c .keys)) (refreshed (c .beacon) (addsTo a (c .keys)) (held (storedIn a (c .keys)))) prompt
+    (stored-permutes a (c .keys) same v) (beacon-stays a (c .keys) same (c .beacon))
 
 on-link-advertised : (e : LinkEvent) (c : Device) (l t : ℕ) (prompt : Prompt) → Valid c
     → ((k : AccountKey) → (Lists (written (onLink e c l t .gives .next)) k × (Lists (written c) k → ⊥)) → ⊥)

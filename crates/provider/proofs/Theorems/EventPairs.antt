@@ -11,10 +11,12 @@ use Rattle.laws.proofs.Choice.{and-left, and-right, or-left, or-right}
 use Rattle.laws.specs.Choice.{if_then_else_, _or_}
 use Rattle.account_keys.proofs.ReadBack.{reads-valid}
 use Rattle.account_keys.specs.Keys as keys
+use Rattle.account_keys.specs.Keys.{held}
 use Rattle.account_keys.specs.StoredList.{reading}
 use Rattle.account_keys.specs.declared.AccountKeys.{AccountKeys}
 use Rattle.account_keys.specs.declared.ListForm.{ListForm}
 use Rattle.account_keys.specs.declared.ListForm.the-variants.{WellFormed, Malformed}
+use Rattle.advertising.specs.Beacon.{refreshed}
 use Rattle.basics.specs.Answers.{answerNumber, isTaken}
 use Rattle.basics.specs.declared.Answer.{Answer}
 use Rattle.basics.specs.declared.Answer.the-variants.{Taken, UnknownLink, ClockWentBack, ListMalformed, LinkIdle, LockedOut, NotInPairingMode, NoKeyFits, SaltSpent}
@@ -27,14 +29,14 @@ use Rattle.names.specs.declared.Name.{Name}
 use Rattle.pairing.proofs.SessionSteps.{OwnParts, own-parts, step-lawful, idle-step, refusal-leaves}
 use Rattle.sessions.proofs.Laws.{stage-idle}
 use Rattle.pairing.specs.Pairing as pairing
-use Rattle.pairing.specs.Pairing.{PairingEvent, isAccountKeyWrite, isNameWrite, answered, sessionStep, storedIn, renamedIn}
+use Rattle.pairing.specs.Pairing.{PairingEvent, isAccountKeyWrite, isNameWrite, answered, sessionStep, storedIn, addsTo, renamedIn}
 use Rattle.pairing.specs.declared.SessionOutcome.{SessionOutcome}
 use Rattle.provider.proofs.Theorems.SessionPairs.{SameOrIdle, same, second-idle, EachSameOrIdle, each-replicate, each-at, each-set, each-expired}
 use Rattle.provider.proofs.Theorems.ValidParts.{no-keys-valid}
 use Rattle.provider.proofs.Theorems.Validity.{stored-valid, used-valid}
 use Rattle.provider.specs.Demands.Gap.{writesKey, writesName}
 use Rattle.provider.specs.Rules.Control.{started, named, byForm, powerOn}
-use Rattle.provider.specs.Rules.Device.{Effect, replyOf, answers, takes, dropAll, withSessions, withKeys, withName, withLink, clockStep, inTime, onKnownLink}
+use Rattle.provider.specs.Rules.Device.{Effect, replyOf, answers, takes, dropAll, withSessions, withKeys, withBeacon, withName, withLink, clockStep, inTime, onKnownLink}
 use Rattle.provider.specs.Rules.Event.{DeviceEvent, PairingMode, AddressRotated, FactoryReset, LinkEvent, LinkUp, LinkDown, KeyBasedWrite, OnSession, Event, Overflow, PowerOn, OnDevice, OnLink, lent, early, contextOf, requested, applied, onDevice, onLink, step}
 use Rattle.provider.specs.declared.Device.{Device}
 use Rattle.provider.specs.declared.Reply.{Reply}
@@ -264,12 +266,16 @@ module _ (e : PairingEvent) (l t : ℕ) (u : Session) (a : SessionOutcome) (own 
 
   related : a .stores ≡ false → a .renames ≡ false → Next
   related p q = inl (record {
-    same = λ i. withName (withKeys (withLink (withSessions d ss) l u) (sym same-keys i)) (sym same-name i);
+    same = λ i. withName (withBeacon (withKeys (withLink (withSessions d ss) l u) (sym same-keys i)) (sym same-beacon i))
+        (sym same-name i);
     before = record { links = each-set (b .links) l (second-idle idle-second); valid = rw p (b .valid) };
   })
     where
       same-keys : storedIn a (d .keys) ≡ d .keys
       same-keys = rw p
+
+      same-beacon : refreshed (d .beacon) (addsTo a (d .keys)) (held (storedIn a (d .keys))) ≡ d .beacon
+      same-beacon = rw p
 
       same-name : renamedIn a (d .name) ≡ d .name
       same-name = rw q

@@ -23,7 +23,7 @@ use Rattle.key_based.proofs.Deciding.{Way}
 use Rattle.pairing.proofs.SessionSteps.{account-key-taken}
 use Rattle.pairing.specs.Pairing.{PairingStarted, ConfirmationNeeded, PasskeyWrite, PairingEnded, AccountKeyWrite, NameWrite, writtenKey, storedIn}
 use Rattle.pairing.specs.declared.SessionOutcome.{SessionOutcome}
-use Rattle.provider.proofs.Theorems.Validity.{stays-valid}
+use Rattle.provider.proofs.Theorems.Validity.{stays-valid, after-valid}
 use Rattle.provider.proofs.Theorems.Ways as event
 use Rattle.provider.proofs.Theorems.Ways.{way}
 use Rattle.provider.specs.Demands.Names.{sessionThen}
@@ -126,12 +126,6 @@ order-of-use d e es a b v u n h =
 
 pub evicts-first : EvictsFirst
 evicts-first d e a v x = gone-first d e v a x
-
--- the device after a run is valid
-after-valid : (es : List Event) (d : Device) → Valid d → Valid (after d es)
-unfolding after
-after-valid [] d v = v
-after-valid (e ∷ es) d v = after-valid es (next d e) (stays-valid d e v)
 
 pub evicts-least-recently-used : EvictsLeastRecentlyUsed
 evicts-least-recently-used d e es f a b v u n x m k =

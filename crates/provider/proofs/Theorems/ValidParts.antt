@@ -9,13 +9,13 @@ use Rattle.laws.proofs.All.{all-set, all-replicate}
 use Rattle.laws.specs.Lists.{All}
 use Rattle.account_keys.specs.Keys.{owned, kept}
 use Rattle.account_keys.specs.declared.AccountKeys.{AccountKeys}
+use Rattle.advertising.specs.declared.Beacon.{Beacon}
 use Rattle.names.proofs.ValidNames.{no-name-valid}
 use Rattle.names.specs.Name as names
 use Rattle.names.specs.declared.Name.{Name}
 use Rattle.provider.specs.Rules.Control.{started, off}
 use Rattle.provider.specs.Demands.Validity.{Valid}
 use Rattle.provider.specs.Rules.Device.{withSessions, dropAt, withLink, withKeys, withGuard, withBeacon, withName, dropAll, clockStep}
-use Rattle.provider.specs.declared.Beacon.{Beacon}
 use Rattle.provider.specs.declared.Device.{Device}
 use Rattle.provider.specs.declared.Start.{Start}
 use Rattle.request_guard.specs.declared.Guard.{Guard}

@@ -1,7 +1,7 @@
 -- Power-on and every event leave a valid device, and its stored list reads back.
 -- Assumes nothing.
 use mathlib.Core.Bool.{Bool, true, false}
-use mathlib.Core.List.{List}
+use mathlib.Core.List.{List, [], _∷_}
 use mathlib.Core.Path.{_≡_, refl}
 use Prim.Native.Nat.{ℕ, _<_}
 use Rattle.laws.proofs.All.{all-get}
@@ -31,7 +31,7 @@ use Rattle.provider.proofs.Theorems.Ways as event
 use Rattle.provider.proofs.Theorems.Ways.{way}
 use Rattle.provider.specs.Demands.Validity.{Valid, StaysValid, StartsValid, StoredListReadsBack}
 use Rattle.provider.specs.Rules.Device.{Effect}
-use Rattle.provider.specs.Rules.Event.{DeviceEvent, PairingMode, AddressRotated, FactoryReset, LinkEvent, LinkUp, LinkDown, KeyBasedWrite, OnSession, Event, PowerOn, contextOf, requested, applied, onDevice, onLink}
+use Rattle.provider.specs.Rules.Event.{DeviceEvent, PairingMode, AddressRotated, FactoryReset, LinkEvent, LinkUp, LinkDown, KeyBasedWrite, OnSession, Event, PowerOn, contextOf, requested, applied, onDevice, onLink, next, after}
 use Rattle.provider.specs.declared.Device.{Device}
 use Rattle.request_guard.proofs.Laws.{fresh-valid, accepted-valid, failed-valid}
 use Rattle.request_guard.specs.Guard.{fresh}
@@ -79,7 +79,7 @@ module _ {d : Device} (v : Valid d) (l : ℕ) (k : l < linkCount) where
 
   applied-valid : {a : SessionOutcome} → Lawful (sessionAt (d .sessions) l) a → Valid (applied d l a .next)
   applied-valid {a} p =
-      link-valid (name-valid (keys-valid v _ (stored-valid a (d .keys) (v .keys) (p .storable))) _
+      link-valid (name-valid (beacon-valid (keys-valid v _ (stored-valid a (d .keys) (v .keys) (p .storable))) _) _
       (renamed-valid a (d .name) (v .name) (p .name))) l (a .session) (p .session session-canonical)
 
   on-link-valid : (e : LinkEvent) (t : ℕ) → Valid (onLink e d l t .gives .next)
@@ -95,7 +95,7 @@ device-valid : (e : DeviceEvent) {d : Device} → Valid d → Valid (onDevice e 
 device-valid (PairingMode on) v = beacon-valid v _
 device-valid (AddressRotated ble salt) v = beacon-valid v _
 device-valid FactoryReset v =
-    name-valid (keys-valid (guard-valid (dropAll-valid v) fresh fresh-valid) _ no-keys-valid) _ no-name-valid
+    beacon-valid (name-valid (keys-valid (guard-valid (dropAll-valid v) fresh fresh-valid) _ no-keys-valid) _ no-name-valid) _
 
 leaves-valid : {d : Device} {e : Event} {x : Effect} → event.Way d e x → Valid d → Valid (x .gives .next)
 leaves-valid event.marker v = dropAll-valid v
@@ -111,6 +111,12 @@ leaves-valid (event.on-link l t e k) v = on-link-valid (clockStep-valid v t) l k
 
 pub stays-valid : StaysValid
 stays-valid d e v = leaves-valid (way d e) v
+
+-- so the device after a run is valid
+pub after-valid : (es : List Event) (d : Device) → Valid d → Valid (after d es)
+unfolding after
+after-valid [] d v = v
+after-valid (e ∷ es) d v = after-valid es (next d e) (stays-valid d e v)
 
 pub starts-valid : StartsValid
 starts-valid d stored name start = go (way d (PowerOn stored name start))

@@ -1,15 +1,17 @@
--- Document 01: overflow marker, power-on, pairing mode, rotation and factory reset; the advertisement.
+-- Document 01: overflow marker, power-on, pairing mode, rotation and factory reset; the advertisement. Document 02 (v): the filter
+-- is built where the list or the salt changes, and the advertisement reads it.
 -- Assumes nothing.
-use mathlib.Core.Bool.{Bool, false}
+use mathlib.Core.Bool.{Bool}
 use mathlib.Core.List.{List, []}
-use lib.ListN.{replicate}
+use lib.ListN.{length, replicate}
 use Prim.Native.Nat.{ℕ}
 use Rattle.account_keys.specs.Keys.{held, kept}
 use Rattle.account_keys.specs.StoredList.{reading}
 use Rattle.account_keys.specs.declared.AccountKeys.{AccountKeys}
 use Rattle.account_keys.specs.declared.ListForm.{ListForm}
 use Rattle.account_keys.specs.declared.ListForm.the-variants.{WellFormed, Malformed}
-use Rattle.advertising.specs.Payload.{payload}
+use Rattle.advertising.specs.Beacon as beacon
+use Rattle.advertising.specs.Beacon.{inPairingMode, rotated, beaconPayload}
 use Rattle.advertising.specs.declared.Prompt.{Prompt}
 use Rattle.basics.specs.declared.Address.{Address}
 use Rattle.basics.specs.declared.Answer.the-variants.{ListMalformed}
@@ -28,16 +30,17 @@ overflow d = takes (dropAll d)
 
 -- "Pairing mode on or off .. Nothing else changes."
 abbrev pub pairingMode : Bool → Device → Device
-pairingMode on d = withBeacon d (record { ble = d .beacon .ble; salt = d .beacon .salt; pairing = on })
+pairingMode on d = withBeacon d (inPairingMode (d .beacon) on)
 
--- "address rotated (new BLE address and new 2-byte filter salt). Nothing else changes."
+-- "address rotated (new BLE address and new 2-byte filter salt). Nothing else changes." The filter is that of the new salt
 abbrev pub addressRotated : Address → List ℕ → Device → Device
-addressRotated ble salt d = withBeacon d (record { ble = ble; salt = salt; pairing = d .beacon .pairing })
+addressRotated ble salt d = withBeacon d (rotated (d .beacon) ble salt (held (d .keys)))
 
 -- "Factory reset. Empties the key list and spent salts, drops every K, sets the count to 0."; document 02 (i): names are "emptied
--- by factory reset"
+-- by factory reset". The filter is that of no key
 abbrev pub factoryReset : Device → Device
-factoryReset d = withName (withKeys (withGuard (dropAll d) fresh) (kept [])) noName
+factoryReset d =
+    withBeacon (withName (withKeys (withGuard (dropAll d) fresh) (kept [])) noName) (beacon.withKeys (d .beacon) [])
 
 -- "Starts from a stored list, addresses, model ID and salt. All links idle, count 0, no spent salts, pairing mode off, clock 0.";
 -- document 02 (i): names are "given at power-on"
@@ -49,7 +52,7 @@ started ks name s =
       sessions = allIdle;
       guard = fresh;
       identity = s .identity;
-      beacon = record { ble = s .ble; salt = s .salt; pairing = false };
+      beacon = beacon.started (s .ble) (s .salt) (held ks);
       name = name;
     }
 
@@ -79,11 +82,10 @@ off =
       sessions = allIdle;
       guard = fresh;
       identity = record { public = noAddress; model = replicate 3 0 };
-      beacon = record { ble = noAddress; salt = replicate 2 0; pairing = false };
+      beacon = beacon.off;
       name = noName;
     }
 
 -- "Asking for a payload changes no state and needs no clock."
 abbrev pub advertised : Device → Prompt → List ℕ
-advertised d prompt =
-    payload (d .beacon .pairing) (d .identity .model) (held (d .keys)) (d .beacon .salt) prompt
+advertised d prompt = beaconPayload (d .beacon) (d .identity .model) (length (held (d .keys))) prompt

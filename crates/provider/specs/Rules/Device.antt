@@ -6,13 +6,13 @@ use Prim.Native.Nat.{ℕ}
 use lib.Dec.{ltb}
 use Rattle.laws.specs.Choice.{if_then_else_}
 use Rattle.account_keys.specs.declared.AccountKeys.{AccountKeys}
+use Rattle.advertising.specs.declared.Beacon.{Beacon}
 use Rattle.basics.specs.Answers.{isTaken}
 use Rattle.basics.specs.declared.Answer.{Answer}
 use Rattle.basics.specs.declared.Answer.the-variants.{Taken, UnknownLink, ClockWentBack}
 use Rattle.key_based.specs.Request.{noBond}
 use Rattle.names.specs.declared.Name.{Name}
 use Rattle.pairing.specs.declared.Confirm.the-variants.{Unasked}
-use Rattle.provider.specs.declared.Beacon.{Beacon}
 use Rattle.provider.specs.declared.Checked.{Checked}
 use Rattle.provider.specs.declared.Device.{Device}
 use Rattle.provider.specs.declared.Outcome.{Outcome}

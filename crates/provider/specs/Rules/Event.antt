@@ -6,7 +6,9 @@ use Prim.Native.Nat.{ℕ}
 use lib.Dec.{ltb}
 use lib.ListN.{length}
 use Rattle.laws.specs.Choice.{if_then_else_}
+use Rattle.account_keys.specs.Keys.{held}
 use Rattle.additional_data.specs.Packet.{packetSized}
+use Rattle.advertising.specs.Beacon.{refreshed}
 use Rattle.basics.specs.declared.Address.{Address}
 use Rattle.basics.specs.declared.Answer.{Answer}
 use Rattle.basics.specs.declared.Answer.the-variants.{Taken, WrongLength, PasskeyTooLarge, OutputTooShort}
@@ -15,12 +17,12 @@ use Rattle.key_based.specs.Request.{noBond, sized}
 use Rattle.key_based.specs.declared.Context.{Context}
 use Rattle.key_based.specs.declared.Decision.{Decision}
 use Rattle.key_based.specs.declared.Element.{Element}
-use Rattle.pairing.specs.Pairing.{PairingEvent, PairingStarted, ConfirmationNeeded, PasskeyWrite, PairingEnded, AccountKeyWrite, NameWrite, sessionStep, storedIn, renamedIn}
+use Rattle.pairing.specs.Pairing.{PairingEvent, PairingStarted, ConfirmationNeeded, PasskeyWrite, PairingEnded, AccountKeyWrite, NameWrite, sessionStep, storedIn, addsTo, renamedIn}
 use Rattle.pairing.specs.Pairing as pairing
 use Rattle.pairing.specs.declared.SessionOutcome.{SessionOutcome}
 use Rattle.pairing.specs.declared.Confirm.the-variants.{Unasked}
 use Rattle.provider.specs.Rules.Control.{overflow, pairingMode, addressRotated, factoryReset, powerOn}
-use Rattle.provider.specs.Rules.Device.{Effect, takes, inTime, onKnownLink, withKeys, withGuard, withName, withLink, dropAt}
+use Rattle.provider.specs.Rules.Device.{Effect, takes, inTime, onKnownLink, withKeys, withGuard, withBeacon, withName, withLink, dropAt}
 use Rattle.provider.specs.declared.Device.{Device}
 use Rattle.provider.specs.declared.Outcome.{Outcome}
 use Rattle.provider.specs.declared.Start.{Start}
@@ -130,11 +132,17 @@ requested d l r =
       };
     }
 
+-- the keys with the one that an event stores; document 02 (v): the filter is built afresh if it is a new one, which may evict another
+abbrev pub withStored : Device → SessionOutcome → Device
+withStored d a =
+    withBeacon (withKeys d (storedIn a (d .keys)))
+    (refreshed (d .beacon) (addsTo a (d .keys)) (held (storedIn a (d .keys))))
+
 -- and with what an event made of its session
 abbrev pub applied : Device → ℕ → SessionOutcome → Outcome
 applied d l a =
     record {
-      next = withLink (withName (withKeys d (storedIn a (d .keys))) (renamedIn a (d .name))) l (a .session);
+      next = withLink (withName (withStored d a) (renamedIn a (d .name))) l (a .session);
       reply = record { answer = a .answer; tried = 0; bond = noBond; confirm = a .confirm; packet = 0 };
     }
 

@@ -10,14 +10,14 @@ use Rattle.packed.proofs.unpack.with_parts.Tie as tie
 
 cleaned-requires : tie.Need-cleaned-requires
 cleaned-requires c κs =
-    let read = c .before .before .before .before .before .before in
+    let read = c .before .before .before .before .before .before .before in
     let start = read .before in
     rw (read .guard-of .ensures) (and-left (bounded (guardOf (start .args .from)))
     (stagesKnown (start .args .from .sessions) and leb (start .args .from .pairing) 1) (start .pre))
 
 returns : tie.Need-returns
 returns c =
-    let read = c .before .before .before .before .before .before .before .before in
+    let read = c .before .before .before .before .before .before .before .before .before in
     rw (c .before .cleaned .ensures, read .guard-of .ensures, c .before .before .links-of .ensures)
 
 pub with-parts-spec : {M : Type 1} → statement M

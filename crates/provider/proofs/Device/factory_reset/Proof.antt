@@ -6,8 +6,7 @@ use Rattle.basics.specs.declared.Answer.the-variants.{Taken}
 use Rattle.provider.specs.Rules.Control as control
 use Rattle.provider.specs.Rules.Device.{Effect, given}
 use Rattle.provider.specs.declared.Device.{Device}
-use Rattle.provider.proofs.Checks.{time-refused, time-passed}
-use Rattle.provider.proofs.Checks.{emptied}
+use Rattle.provider.proofs.Checks.{time-refused, time-passed, emptied, none-kept}
 use borrow.Author.Needs.{needs}
 use Rattle.provider.proofs.Device.factory_reset.Statement.{statement}
 use Rattle.provider.proofs.Device.factory_reset.Tie as tie
@@ -20,20 +19,26 @@ returns c =
     (time-refused (start .args .self) (start .args .clock .0) (at-in-time .in-time .ensures)
     (not-true (at-in-time .in-time .result .passed) (c .before .if1 .taken)) [] _))
 
+with-keys-requires : tie.Need-with-keys-requires
+with-keys-requires c κs = none-kept (c .before .before .before .none .ensures)
+
 returns-2 : tie.Need-returns-2
 returns-2 c =
     let at-none2 = c .before in
-    let at-none = at-none2 .before in
-    let at-new = at-none .before in
+    let at-with-keys = at-none2 .before in
+    let at-new = at-with-keys .before in
     let at-all-idle = at-new .before in
-    let at-if1 = at-all-idle .before .before in
+    let at-none = at-all-idle .before .before in
+    let at-if1 = at-none .before .before in
     let at-in-time = at-if1 .before .before in
     let start = at-in-time .before in
-    let p = (time-passed (start .args .self) (start .args .clock .0) (at-in-time .in-time .ensures)
-    (not-false (at-in-time .in-time .result .passed) (at-if1 .if1 .left))) in c .answers .ensures ∙ emptied
+    let p = time-passed (start .args .self) (start .args .clock .0) (at-in-time .in-time .ensures)
+    (not-false (at-in-time .in-time .result .passed) (at-if1 .if1 .left)) in
+    c .answers .ensures ∙ emptied
     (at-in-time .in-time .result .outcome .next) (at-none .none .ensures) (at-all-idle .all-idle .ensures)
-    (at-new .new .ensures) (at-none2 .none2 .ensures) ∙ ap (λ (d : Device). given (control.factoryReset d) Taken) (p .0) ∙ sym
-    (ap (λ (x : Effect). x .gives) (p .1 [] _))
+    (at-new .new .ensures) (at-with-keys .with-keys .ensures) (at-none2 .none2 .ensures)
+    ∙ ap (λ (d : Device). given (control.factoryReset d) Taken) (p .0)
+    ∙ sym (ap (λ (x : Effect). x .gives) (p .1 [] _))
 
 pub factory-reset-spec : {M : Type 1} → statement M
 factory-reset-spec =
@@ -44,6 +49,7 @@ factory-reset-spec =
     (λ c κs. search needs)
     (λ c κs. search needs)
     (λ c κs. search needs)
+    with-keys-requires
     (λ c κs. search needs)
     (λ c κs. search needs)
     returns-2)

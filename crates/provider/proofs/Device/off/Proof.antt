@@ -5,12 +5,25 @@ use Rattle.provider.proofs.Device.off.Tie as tie
 
 returns : tie.Need-returns
 returns c =
-    let at-new = c .before in
+    let at-beacon = c .before in
+    let at-new = at-beacon .before in
     let at-all-idle = at-new .before in
     let at-none = at-all-idle .before in
-    rw (at-none .none .ensures, at-all-idle .all-idle .ensures, at-new .new .ensures, c .none2 .ensures)
+    rw (
+      at-none .none .ensures,
+      at-all-idle .all-idle .ensures,
+      at-new .new .ensures,
+      at-beacon .off .ensures,
+      c .none2 .ensures,
+    )
 
 pub off-spec : {M : Type 1} → statement M
 off-spec =
     tie.close
-    (tie.spec (λ c κs. search needs) (λ c κs. search needs) (λ c κs. search needs) (λ c κs. search needs) returns)
+    (tie.spec
+    (λ c κs. search needs)
+    (λ c κs. search needs)
+    (λ c κs. search needs)
+    (λ c κs. search needs)
+    (λ c κs. search needs)
+    returns)

@@ -3,10 +3,18 @@ use mathlib.Core.Path.{sym, ap, _∙_}
 use Rattle.account_keys.specs.declared.Reading.{Reading}
 use Rattle.provider.specs.Rules.Control as control
 use Rattle.provider.specs.Rules.Device.{Effect}
-use Rattle.provider.proofs.Checks.{list-read, list-malformed}
+use Rattle.provider.proofs.Checks.{list-read, list-malformed, list-kept}
 use borrow.Author.Needs.{needs}
 use Rattle.provider.proofs.Device.power_on.Statement.{statement}
 use Rattle.provider.proofs.Device.power_on.Tie as tie
+
+named-requires : tie.Need-named-requires
+named-requires c κs =
+    let at-enum-told = c .before in
+    let at-read = at-enum-told .before .before in
+    let start = at-read .before .before .before in
+    rw (at-read .read .ensures) (list-kept (start .args .stored .now)
+    (sym (ap (λ (r : Reading). r .form) (at-read .read .ensures)) ∙ at-enum-told .enum-told .given .1))
 
 returns : tie.Need-returns
 returns c =
@@ -35,7 +43,7 @@ power-on-spec =
     (tie.spec
     (λ c κs. search needs)
     (λ c. search needs)
-    (λ c κs. search needs)
+    named-requires
     (λ c. search needs)
     (λ c κs. search needs)
     returns
