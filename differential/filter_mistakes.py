@@ -3,6 +3,7 @@
 from ctypes import string_at
 
 from reference.rules.advertising import account_key_filter, filter_size
+from reference.rules.device import MOST_KEYS
 
 from .result_mistakes import answers
 from .struct_values import keys
@@ -14,7 +15,8 @@ def filter_before(arguments, result):
     result.next.filter = arguments[0].filter
 
 
-def kept_on_rotation(arguments, result):
+def kept_when_taken(arguments, result):
+    """A power-on, a rotation or a reset that builds nothing."""
     if answers(result, 0):
         filter_before(arguments, result)
 
@@ -26,30 +28,20 @@ def changed_on_4(arguments, result):
 
 
 def kept_with_a_new_key(arguments, result):
-    if answers(result, 0) and not is_held(arguments, result) and len(keys(arguments[0])) < 5:
+    if answers(result, 0) and not is_held(arguments, result) and len(keys(arguments[0])) < MOST_KEYS:
         filter_before(arguments, result)
 
 
 def kept_on_eviction(arguments, result):
-    if answers(result, 0) and not is_held(arguments, result) and len(keys(arguments[0])) == 5:
+    if answers(result, 0) and not is_held(arguments, result) and len(keys(arguments[0])) == MOST_KEYS:
         filter_before(arguments, result)
 
 
 def evicted_bits_stay(arguments, result):
     """The new key's bits are added to those that were there."""
-    if answers(result, 0) and len(keys(arguments[0])) == 5:
+    if answers(result, 0) and len(keys(arguments[0])) == MOST_KEYS:
         both = zip(arguments[0].filter, result.next.filter)
         result.next.filter[:] = [old | new for old, new in both]
-
-
-def kept_on_reset(arguments, result):
-    if answers(result, 0):
-        filter_before(arguments, result)
-
-
-def kept_on_power_on(arguments, result):
-    if answers(result, 0):
-        filter_before(arguments, result)
 
 
 def emptied_by_mode(arguments, result):
