@@ -22,7 +22,7 @@ enum { LINK = 3, NO_LINK = 8, BEFORE = 1000, NOW = 2000, PASSKEY = 123456 };
 enum { STACK_BYTES = 256 * 1024, PAINT = 0xA5 };
 
 /* Whose key a request is under: an account key's place in the list, a key that nobody holds, the shared secret's. */
-enum { UNKNOWN = 9, SHARED = 10 };
+enum { UNKNOWN = 15, SHARED = 16 };
 
 static const fp_start START = { .identity = { .public_address = { { 0xA0, 0xB1, 0xC2, 0xD3, 0xE4, 0xF5 } },
 					      .model = { 0x12, 0x34, 0x56 } },
@@ -101,7 +101,7 @@ static void make_list(unsigned keys)
 {
 	list_length = 4 + 16 * keys;
 	list[1] = (uint8_t)(2 + 16 * keys);
-	list[2] = 1;
+	list[2] = 2;
 	list[3] = (uint8_t)keys;
 	for (unsigned i = 0; i < keys; i++)
 		account_key(i, list + 4 + 16 * i);
@@ -181,6 +181,14 @@ static fp_device off(unsigned keys)
 {
 	make_list(keys);
 	return fp_off();
+}
+
+/* The list as firmware before 4.5.0 wrote it. */
+static fp_device off_older(unsigned keys)
+{
+	fp_device d = off(keys);
+	list[2] = 1;
+	return d;
 }
 
 static fp_device powered(unsigned keys)
@@ -286,7 +294,7 @@ static fp_device locked(unsigned keys)
 	return d;
 }
 
-/* Every place in use: five keys, sixteen salts, the longest name, a key on every link, and all keys and salts as alike as
+/* Every place in use: ten keys, sixteen salts, the longest name, a key on every link, and all keys and salts as alike as
  * can be. The requests are under the last key, so that the keys keep their places. */
 static fp_device full(unsigned keys)
 {
@@ -317,20 +325,25 @@ static const struct row rows[] = {
 	{ "link up on link 8 (1), 0 keys", powered, 0, no_link, 1, 0, 4, 0, 0 },
 	{ "link up on link 8 (1), 1 key", powered, 1, no_link, 1, 0, 20, 0, 0 },
 	{ "link up on link 8 (1), 5 keys", powered, 5, no_link, 1, 0, 84, 0, 0 },
-	{ "link up on link 8 (1), 5 keys that differ in their last byte", powered_alike, 5, no_link, 1, 0, 84, 0, 0 },
+	{ "link up on link 8 (1), 10 keys", powered, 10, no_link, 1, 0, 164, 0, 0 },
+	{ "link up on link 8 (1), 10 keys that differ in their last byte", powered_alike, 10, no_link, 1, 0, 164, 0, 0 },
 	{ "link up on link 8 (1), 0 keys, name of 64 bytes", named, 0, no_link, 1, 0, 4, 0, 0 },
-	{ "link up on link 8 (1), all places in use", full, 5, no_link, 1, 0, 84, 0, 0 },
+	{ "link up on link 8 (1), all places in use", full, 10, no_link, 1, 0, 164, 0, 0 },
 	{ "overflow marker", asked, 0, overflow, 0, 0, 4, 0, 0 },
 	{ "link up", powered, 0, link_up, 0, 0, 4, 0, 0 },
 	{ "link down", asked, 0, link_down, 0, 0, 4, 0, 0 },
 	{ "pairing mode, 0 keys", powered, 0, pairing_mode, 0, 0, 4, 0, 0 },
 	{ "pairing mode, 5 keys", powered, 5, pairing_mode, 0, 0, 84, 0, 0 },
+	{ "pairing mode, 10 keys", powered, 10, pairing_mode, 0, 0, 164, 0, 0 },
 	{ "address rotated, 0 keys", powered, 0, rotated, 0, 0, 4, 0, 0 },
 	{ "address rotated, 5 keys", powered, 5, rotated, 0, 0, 84, 0, 0 },
+	{ "address rotated, 10 keys", powered, 10, rotated, 0, 0, 164, 0, 0 },
 	{ "power-on, 0 keys", off, 0, power_on, 0, 0, 4, 0, 0 },
 	{ "power-on, 5 keys", off, 5, power_on, 0, 0, 84, 0, 0 },
+	{ "power-on, 5 keys of version 1", off_older, 5, power_on, 0, 0, 84, 0, 0 },
+	{ "power-on, 10 keys", off, 10, power_on, 0, 0, 164, 0, 0 },
 	{ "power-on, 0 keys, name of 64 bytes", off_named, 0, power_on, 0, 0, 4, 0, 0 },
-	{ "factory reset, 5 keys", powered, 5, reset, 0, 0, 4, 0, 0 },
+	{ "factory reset, 10 keys", powered, 10, reset, 0, 0, 4, 0, 0 },
 	{ "key-based write of 16, 0 keys (7)", powered, 0, key_based, 7, 0, 4, UNKNOWN, 0 },
 	{ "key-based write of 16, 1 key, fits", powered, 1, key_based, 0, 1, 20, 0, 0 },
 	{ "key-based write of 16, 1 key, fits, name of 0 bytes sent", asked_for_empty_name, 1, key_based, 0, 1, 20, 0, 16 },
@@ -339,7 +352,10 @@ static const struct row rows[] = {
 	{ "key-based write of 16, 5 keys, the first fits", powered, 5, key_based, 0, 1, 84, 0, 0 },
 	{ "key-based write of 16, 5 keys, the fifth fits", powered, 5, key_based, 0, 5, 84, 4, 0 },
 	{ "key-based write of 16, 5 keys, none fits (7)", powered, 5, key_based, 7, 5, 84, UNKNOWN, 0 },
-	{ "key-based write of 16, the fifth fits, all places in use", full, 5, key_based, 0, 5, 84, 4, 0 },
+	{ "key-based write of 16, 10 keys, the first fits", powered, 10, key_based, 0, 1, 164, 0, 0 },
+	{ "key-based write of 16, 10 keys, the tenth fits", powered, 10, key_based, 0, 10, 164, 9, 0 },
+	{ "key-based write of 16, 10 keys, none fits (7)", powered, 10, key_based, 7, 10, 164, UNKNOWN, 0 },
+	{ "key-based write of 16, the tenth fits, all places in use", full, 10, key_based, 0, 10, 164, 9, 0 },
 	{ "key-based write of 80, 0 keys, fits", open_to_pair, 0, key_based, 0, 1, 4, SHARED, 0 },
 	{ "key-based write locked out (5), 1 key", locked, 1, key_based, 5, 0, 20, 0, 0 },
 	{ "pairing started", asked, 0, started, 0, 0, 4, 0, 0 },
@@ -349,11 +365,15 @@ static const struct row rows[] = {
 	{ "name write of 0 bytes, in place of 64", asked_to_unname, 0, name_write, 0, 0, 4, 0, 0 },
 	{ "name write of 64 bytes", asked_to_name, 0, name_write, 0, 0, 4, 0, 0 },
 	{ "account key write, 0 keys", paired, 0, account, 0, 0, 20, UNKNOWN, 0 },
-	{ "account key write, 5 keys", paired, 5, account, 0, 0, 84, UNKNOWN, 0 },
+	{ "account key write, 5 keys", paired, 5, account, 0, 0, 100, UNKNOWN, 0 },
+	{ "account key write, 10 keys", paired, 10, account, 0, 0, 164, UNKNOWN, 0 },
 	{ "account key write, 5 keys, the first written again", paired, 5, account, 0, 0, 84, 0, 0 },
+	{ "account key write, 10 keys, the first written again", paired, 10, account, 0, 0, 164, 0, 0 },
 	{ "advertisement, 0 keys", powered, 0, advertisement, 0, 0, 6, 0, 0 },
 	{ "advertisement, 5 keys", powered, 5, advertisement, 0, 0, 18, 0, 0 },
+	{ "advertisement, 10 keys", powered, 10, advertisement, 0, 0, 24, 0, 0 },
 	{ "stored list, 5 keys", powered, 5, stored_list, 0, 0, 84, 0, 0 },
+	{ "stored list, 10 keys", powered, 10, stored_list, 0, 0, 164, 0, 0 },
 };
 enum { ROWS = sizeof rows / sizeof *rows };
 

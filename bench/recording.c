@@ -62,7 +62,7 @@ static uint64_t later(void)
 
 static void put_power_on(void)
 {
-	uint8_t list[FP_STORED_LIST_MAX] = { 0x00, 0x02, 0x01 }, keys = (uint8_t)below(FP_MAX_KEYS + 1);
+	uint8_t list[FP_STORED_LIST_MAX] = { 0x00, 0x02, 0x02 }, keys = (uint8_t)below(FP_MAX_KEYS + 1);
 	fp_start start = { .identity = IDENTITY };
 	list[1] = (uint8_t)(2 + 16 * keys);
 	list[3] = keys;

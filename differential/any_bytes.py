@@ -1,4 +1,4 @@
-"""Any bytes as a device: some get 255, and those in places that are not in use don't count."""
+"""Any bytes as a device: some get 255, and those in places that are not in use, and a list's version, don't count."""
 
 from collections import Counter
 from random import Random
@@ -38,7 +38,7 @@ class AnyBytes:
             return Difference("any bytes: memory or reply", "", str(violation))
 
     def never_tried(self):
-        ways = (*corrupted_device.NO_DEVICE, *corrupted_device.NOT_IN_USE)
+        ways = (*corrupted_device.NO_DEVICE, *corrupted_device.SAME_DEVICE)
         return [way.__name__ for way in ways if not self.tried[way.__name__]]
 
     def refused(self, device, kinds):
@@ -52,14 +52,14 @@ class AnyBytes:
             found = self.step(corrupted, event)
             if expected != found:
                 return differs(fault, event, corrupted, expected, found)
-        out = self.random.randbytes(self.random.randrange(90))
+        out = self.random.randbytes(self.random.randrange(180))
         expected = [(NOT_A_DEVICE, 0, out)] * 3
         found = self.questions(corrupted, out)
         return None if expected == found else differs(fault, "questions", corrupted, expected, found)
 
     def ignored(self, device, kinds):
-        """ "Not looked at, and zero in the device that comes back" """
-        place = self.random.choice(corrupted_device.NOT_IN_USE)
+        """ "Not looked at, and zero in the device that comes back"; version 0x01 comes back as 0x02."""
+        place = self.random.choice(corrupted_device.SAME_DEVICE)
         corrupted = corrupted_device.copy(device)
         if not place(self.random, corrupted):
             return None
@@ -68,7 +68,7 @@ class AnyBytes:
             expected, found = self.step(device, event), self.step(corrupted, event)
             if expected != found:
                 return differs(place, event, corrupted, expected, found)
-        out = self.random.randbytes(self.random.randrange(90))
+        out = self.random.randbytes(self.random.randrange(180))
         expected, found = self.questions(device, out), self.questions(corrupted, out)
         return None if expected == found else differs(place, "questions", corrupted, expected, found)
 

@@ -3,6 +3,7 @@
 from dataclasses import dataclass, fields
 from random import Random
 
+from reference import older_stored_list
 from reference.rules.advertising import advertisement
 from reference.rules.events import PowerOn, Reply
 from reference.rules.lent_output import put_or_refuse
@@ -12,6 +13,7 @@ from reference.rules.stored_list import stored_list
 from .expected_device import expected_values
 from .guarded_memory import InterfaceViolation
 from .struct_values import differing, values
+from .structs import STORED_LIST_MAX
 
 REPLY = tuple(field.name for field in fields(Reply))
 
@@ -64,7 +66,13 @@ class Pair:
 
     def compare_list(self):
         text = stored_list(self.reference)
-        return self.compare_output("stored list", text, self.library.stored_list)
+        return self.compare_output("stored list", text, self.library.stored_list) or self.older_firmware()
+
+    def older_firmware(self):
+        """ "Old firmware given a 0x02 list answers 14": its reader, given what the library wrote."""
+        _, length, out = self.library.stored_list(self.device, bytes(STORED_LIST_MAX))
+        read = older_stored_list.read_stored_list(out[:length])
+        return None if read is None else Difference("older firmware", "14", f"0, {len(read)} keys")
 
     def compare_payload(self, hide):
         text = advertisement(self.reference, bool(hide))

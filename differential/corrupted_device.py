@@ -1,9 +1,11 @@
-"""Ways to corrupt an fp_device: bytes that are no device, and bytes in places that are not in use."""
+"""Ways to change an fp_device: bytes that are no device, and bytes that are the same device."""
 
 from ctypes import sizeof
 
 from reference.generator import random_names
-from reference.rules.stored_list import read_stored_list
+from reference.generator.random_values import different_keys
+from reference.rules.device import MOST_KEYS
+from reference.rules.stored_list import MOST_IN, pack, read_stored_list
 
 from .structs import LINKS, MOST_SALTS, NAME_MAX, STORED_LIST_MAX, FpDevice
 
@@ -41,7 +43,7 @@ def unknown_pairing(random, device):
 
 
 def long_list(random, device):
-    device.stored.length = random.choice((85, 86, 255, 260, 2**32 + 4, 2**64 - 1))
+    device.stored.length = random.choice((165, 166, 255, 260, 2**32 + 4, 2**64 - 1))
 
 
 def other_length(random, device):
@@ -59,6 +61,13 @@ def malformed_list(random, device):
         stored.bytes[random.choice((0, 1, 2, 3, *first_bytes))] ^= 1 << random.randrange(8)
 
 
+def long_older_list(random, device):
+    """Version 1 with more keys than a list of it has."""
+    text = pack(different_keys(random, random.randrange(MOST_IN[1] + 1, MOST_KEYS + 1)), 1)
+    device.stored.length = len(text)
+    device.stored.bytes[: len(text)] = list(text)
+
+
 def long_name(random, device):
     device.name.length = random.choice((65, 66, 80, 255, 256, 2**32 + 1, 2**64 - 1))
 
@@ -74,7 +83,7 @@ def set_name(device, text):
 
 
 def random_bytes(random, device):
-    """Its length of the stored list is above 84, as good as surely."""
+    """Its length of the stored list is above 164, as good as surely."""
     memoryview(device).cast("B")[:] = random.randbytes(sizeof(FpDevice))
 
 
@@ -87,13 +96,14 @@ NO_DEVICE = (
     long_list,
     other_length,
     malformed_list,
+    long_older_list,
     long_name,
     ill_formed_name,
     random_bytes,
 )
 
 
-# ---- places that are not in use; each says whether the device has such a place
+# ---- bytes that are the same device; each says whether the device has such a place
 
 
 def idle_link(random, device):
@@ -127,6 +137,14 @@ def behind_list(random, device):
     return room > 0
 
 
+def older_list(random, device):
+    """The same keys in version 1, if a list of it has so many."""
+    few = device.stored.bytes[3] <= MOST_IN[1]
+    if few:
+        device.stored.bytes[2] = 1
+    return few
+
+
 def behind_name(random, device):
     room = NAME_MAX - device.name.length
     device.name.bytes[device.name.length :] = list(random.randbytes(room))
@@ -146,7 +164,7 @@ def reserved(random, device):
     return True
 
 
-NOT_IN_USE = (idle_link, free_salts, behind_salts, behind_list, behind_name, no_failure, reserved)
+SAME_DEVICE = (idle_link, free_salts, behind_salts, behind_list, older_list, behind_name, no_failure, reserved)
 
 
 # ---- bytes that are served as they stand

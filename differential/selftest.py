@@ -2,7 +2,9 @@
 
 from unittest import mock
 
-from . import filter_mistakes, marked_lists, record_mistakes, result_mistakes, run_pair, use_mistakes
+from reference.rules.device import MOST_KEYS
+
+from . import filter_mistakes, list_mistakes, marked_lists, record_mistakes, result_mistakes, run_pair, use_mistakes
 from .any_bytes import AnyBytes
 from .compare import first_difference
 from .records import Records
@@ -16,6 +18,8 @@ EVENTS = 6_000
 LIST = 300
 # A stored key takes six events after power-on and pairing mode; some mistakes show only with the third.
 SHORT = 25
+# A list that is filled by events takes six for each key.
+FILLED = 6 * MOST_KEYS
 
 # The function, the mistake in its results, and how the difference is called.
 MISTAKES = (
@@ -50,7 +54,6 @@ MISTAKES = (
     ("fp_key_based_write", use_mistakes.used_with_7, "state"),
     ("fp_key_based_write", use_mistakes.used_by_80_bytes, "state"),
     ("fp_account_key_write", use_mistakes.held_key_not_used, "state"),
-    ("fp_account_key_write", use_mistakes.last_evicted, "state"),
     ("fp_account_key_write", use_mistakes.used_with_12, "state"),
     ("fp_power_on", use_mistakes.list_reversed, "state"),
     ("fp_overflow", use_mistakes.first_key_used, "state"),
@@ -75,8 +78,6 @@ MISTAKES = (
     ("fp_address_rotated", filter_mistakes.kept_when_taken, "state"),
     ("fp_address_rotated", filter_mistakes.changed_on_4, "state"),
     ("fp_account_key_write", filter_mistakes.kept_with_a_new_key, "state"),
-    ("fp_account_key_write", filter_mistakes.kept_on_eviction, "state"),
-    ("fp_account_key_write", filter_mistakes.evicted_bits_stay, "state"),
     ("fp_account_key_write", filter_mistakes.bit_of_order, "state"),
     ("fp_key_based_write", filter_mistakes.bit_of_order, "state"),
     ("fp_factory_reset", filter_mistakes.kept_when_taken, "state"),
@@ -84,8 +85,22 @@ MISTAKES = (
     ("fp_power_on", filter_mistakes.behind_filter, "state"),
     ("fp_pairing_mode", filter_mistakes.emptied_by_mode, "state"),
     ("fp_overflow", filter_mistakes.emptied, "state"),
+    ("fp_power_on", list_mistakes.older_refused, "reply: answer"),
+    ("fp_power_on", list_mistakes.older_with_six_taken, "reply: answer"),
+    ("fp_power_on", list_mistakes.eleven_taken, "reply: answer"),
+    ("fp_power_on", list_mistakes.full_list_refused, "reply: answer"),
+    ("fp_power_on", list_mistakes.older_stays_older, "state"),
+    ("fp_stored_list", list_mistakes.short_list_written_as_older, "stored list"),
     ("fp_advertisement", result_mistakes.filter_bit, "payload"),
     ("fp_advertisement", result_mistakes.prompt_shown, "payload"),
+)
+# These show with many keys, which events may have brought.
+WITH_MANY_KEYS = (
+    ("fp_account_key_write", use_mistakes.last_evicted, "state"),
+    ("fp_account_key_write", filter_mistakes.kept_on_eviction, "state"),
+    ("fp_account_key_write", filter_mistakes.evicted_bits_stay, "state"),
+    ("fp_account_key_write", list_mistakes.evicts_at(5), "state"),
+    ("fp_account_key_write", list_mistakes.evicts_at(9), "state"),
 )
 # These show in corrupted devices alone, and there is no list of events to shorten.
 WITH_ANY_BYTES = (
@@ -95,6 +110,8 @@ WITH_ANY_BYTES = (
     ("fp_link_up", result_mistakes.unused_key_kept, "any bytes"),
     ("fp_link_up", result_mistakes.unused_name_bytes_kept, "any bytes"),
     ("fp_link_up", filter_mistakes.mended, "any bytes"),
+    ("fp_link_up", list_mistakes.older_device_refused, "any bytes"),
+    ("fp_link_up", list_mistakes.older_device_kept, "any bytes"),
 )
 # These show in the record of one event, and there is no list either.
 WITH_RECORDS = (
@@ -146,7 +163,7 @@ WRONG_PARTINGS = (
 )
 
 
-def in_lists(library, name, mistake, called):
+def in_lists(library, name, mistake, called, short=SHORT):
     """Found, called right, and shown by a short list; a text that says so, or None."""
     wrong = with_mistakes(library, {name: mistake})
     _, failure = runs(wrong, 1, EVENTS, LIST)
@@ -154,9 +171,13 @@ def in_lists(library, name, mistake, called):
         return None
     events = shortest(wrong, failure)
     fails_still = first_difference(wrong, events) and not first_difference(library, events)
-    if not fails_still or len(events) > SHORT:
+    if not fails_still or len(events) > short:
         return None
     return f"found after {len(failure.events)} events, shortened to {len(events)}"
+
+
+def in_filled_lists(library, name, mistake, called):
+    return in_lists(library, name, mistake, called, FILLED)
 
 
 def in_any_bytes(library, name, mistake, called):
@@ -208,6 +229,7 @@ def selftest(library):
     missed = 0
     ways = {
         in_lists: MISTAKES,
+        in_filled_lists: WITH_MANY_KEYS,
         in_any_bytes: WITH_ANY_BYTES,
         in_records: WITH_RECORDS,
         in_two_runs: WITH_TWO_RUNS,

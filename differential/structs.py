@@ -4,9 +4,9 @@ from ctypes import Structure, c_uint8, c_uint32, c_uint64
 
 LINKS = 8
 MOST_SALTS = 16
-STORED_LIST_MAX = 84
+STORED_LIST_MAX = 164
 NAME_MAX = 64
-FILTER_MAX = 9
+FILTER_MAX = 15
 
 
 class FpAddress(Structure):
@@ -61,7 +61,7 @@ class FpDevice(Structure):
         ("filter", c_uint8 * FILTER_MAX),
         ("pairing", c_uint8),
         ("failures", c_uint8),
-        ("reserved", c_uint8 * 4),
+        ("reserved", c_uint8 * 6),
     ]
 
 

@@ -1,5 +1,7 @@
 """Mistakes put into the order of the library's key list, to see that the comparison finds them."""
 
+from reference.rules.device import MOST_KEYS
+
 from .result_mistakes import answers
 from .run_pair import HELD_KEY, parts
 from .struct_values import KEYS_FROM, keys
@@ -103,8 +105,8 @@ def held_key_placed_by_links(arguments, result):
 def last_evicted(arguments, result):
     """The first key is kept, and the last one is removed."""
     before = keys(arguments[0])
-    if answers(result, 0) and len(before) == 5 and not is_held(arguments, result):
-        put_keys(result.next, before[:4] + keys(result.next)[4:])
+    if answers(result, 0) and len(before) == MOST_KEYS and not is_held(arguments, result):
+        put_keys(result.next, before[:-1] + keys(result.next)[-1:])
 
 
 def used_with_12(arguments, result):

@@ -3,9 +3,9 @@
  *     advertising
  *
  * A radio asks for its data at every advertising interval, ten times a second. The filter in it is kept in the device, so
- * asking only copies. It changes with the keys and with the salt, and with nothing else: here five owners, A to E, are
- * powered on, A's phone connects, a sixth owner, Z, pairs and B's key is removed, the address rotates, and the device is
- * reset. Every event is printed with the data that the radio then has. Exit 1 if that is not the data expected.
+ * asking only copies. It changes with the keys and with the salt, and with nothing else: here ten owners, A to J, are
+ * powered on, A's phone connects, an eleventh owner, Z, pairs and B's key is removed, the address rotates, and the device
+ * is reset. Every event is printed with the data that the radio then has. Exit 1 if that is not the data expected.
  *
  * The expected data were computed with hashlib, and not by this library. The salts and the nonce are fixed; a product draws
  * them, and wipes its copies of the keys.
@@ -17,12 +17,15 @@
 #include <stdlib.h>
 #include <string.h>
 
-static const uint8_t OF_A_TO_E[18] = {
-    0x11, 0x16, 0x2C, 0xFE, 0x00, 0x90, 0x00, 0x91, 0xA8, 0x03, 0x26, 0x8A, 0x9A, 0x1D, 0xFD, 0x21, 0xC7, 0xC8};
-static const uint8_t OF_Z_WITHOUT_B[18] = {
-    0x11, 0x16, 0x2C, 0xFE, 0x00, 0x90, 0x00, 0x91, 0xA8, 0x13, 0x26, 0xA8, 0xDB, 0x1D, 0xF9, 0x21, 0xC7, 0xC8};
-static const uint8_t WITH_NEW_SALT[18] = {
-    0x11, 0x16, 0x2C, 0xFE, 0x00, 0x90, 0x7C, 0x64, 0x00, 0x69, 0xC9, 0x0D, 0x02, 0x81, 0x63, 0x21, 0xD1, 0xD2};
+static const uint8_t OF_A_TO_J[24] = {
+    0x17, 0x16, 0x2C, 0xFE, 0x00, 0xF0, 0xD4, 0x35, 0xEE, 0x2A, 0xAA, 0xAA, 0x97, 0x0B, 0xE0, 0x4A,
+    0x47, 0x19, 0x3E, 0xD8, 0x1D, 0x21, 0xC7, 0xC8};
+static const uint8_t OF_Z_WITHOUT_B[24] = {
+    0x17, 0x16, 0x2C, 0xFE, 0x00, 0xF0, 0xD4, 0x35, 0xEE, 0x6A, 0xAE, 0xAA, 0x97, 0x0B, 0xE0, 0x4A,
+    0x47, 0x19, 0x3E, 0xD8, 0x09, 0x21, 0xC7, 0xC8};
+static const uint8_t WITH_NEW_SALT[24] = {
+    0x17, 0x16, 0x2C, 0xFE, 0x00, 0xF0, 0x10, 0xE9, 0x81, 0xC9, 0x9F, 0x42, 0x7A, 0x65, 0x0B, 0x6A,
+    0x81, 0x36, 0x74, 0x23, 0x8B, 0x21, 0xD1, 0xD2};
 static const uint8_t MODEL_ID[7] = {0x06, 0x16, 0x2C, 0xFE, 0x12, 0x34, 0x56};
 static const uint8_t NO_OWNER[6] = {0x05, 0x16, 0x2C, 0xFE, 0x00, 0x00};
 
@@ -101,10 +104,10 @@ static void pair_z(uint64_t clock)
 
 int main(void)
 {
-    served("power-on", fp_power_on(fp_off(), FIVE_OWNERS, sizeof FIVE_OWNERS, NULL, 0, START), OF_A_TO_E,
-           sizeof OF_A_TO_E);
+    served("power-on", fp_power_on(fp_off(), TEN_OWNERS, sizeof TEN_OWNERS, NULL, 0, START), OF_A_TO_J,
+           sizeof OF_A_TO_J);
     /* A's key moves to the end of the list: an order shows nowhere */
-    served("A's request", requested(1000, REQUEST_OF_A, 16), OF_A_TO_E, sizeof OF_A_TO_E);
+    served("A's request", requested(1000, REQUEST_OF_A, 16), OF_A_TO_J, sizeof OF_A_TO_J);
     pair_z(2000);
     served("address rotated", fp_address_rotated(device, START.ble, NEW_SALT, 3000), WITH_NEW_SALT, sizeof WITH_NEW_SALT);
     served("overflow marker", fp_overflow(device), WITH_NEW_SALT, sizeof WITH_NEW_SALT);

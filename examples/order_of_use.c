@@ -2,8 +2,8 @@
  *
  *     order_of_use
  *
- * Five owners, A to E, were stored in this order. A's phone connects again, and its key moves to the end. Then a
- * sixth owner, Z, pairs: B's key is removed, since it is the least recently used. Every event is printed with its
+ * Ten owners, A to J, were stored in this order. A's phone connects again, and its key moves to the end. Then an
+ * eleventh owner, Z, pairs: B's key is removed, since it is the least recently used. Every event is printed with its
  * answer, the number of keys tried and the owners in list order. Exit 1 if one of them is not the one expected.
  *
  * The list is saved if it is not what was saved last. Flash memory is a variable here; pairing.c saves in a file. The
@@ -32,10 +32,10 @@ typedef struct {
     char letters[FP_MAX_KEYS + 1];
 } owners;
 
-/* A key is known by its second byte here: A1 to E1 of owners.h, 31 of phone.h. */
+/* A key is known by the high half of its second byte here: A to F and 6 to 9 in owners.h, 3 in phone.h. */
 static char owner_of(const uint8_t key[16])
 {
-    return key[1] == 0x31 ? 'Z' : (char)('A' + (key[1] >> 4) - 0xA);
+    return "???Z??GHIJABCDEF"[key[1] >> 4];
 }
 
 static owners in_order(const fp_stored *stored)
@@ -107,10 +107,10 @@ static void pair_z(uint64_t clock, const char *before, const char *after)
 
 static void least_recently_used_goes(void)
 {
-    served("A's request", requested(1000, REQUEST_OF_A, 16), FP_TAKEN, 1, "BCDEA");
-    served("A's next request", requested(2000, SECOND_REQUEST_OF_A, 16), FP_TAKEN, 5, "BCDEA");
-    pair_z(3000, "BCDEA", "CDEAZ");
-    served("B's request", requested(4000, REQUEST_OF_B, 16), FP_NO_KEY_FITS, 5, "CDEAZ");
+    served("A's request", requested(1000, REQUEST_OF_A, 16), FP_TAKEN, 1, "BCDEFGHIJA");
+    served("A's next request", requested(2000, SECOND_REQUEST_OF_A, 16), FP_TAKEN, 10, "BCDEFGHIJA");
+    pair_z(3000, "BCDEFGHIJA", "CDEFGHIJAZ");
+    served("B's request", requested(4000, REQUEST_OF_B, 16), FP_NO_KEY_FITS, 10, "CDEFGHIJAZ");
     if (saves != 2)
         stop("two saves, of A's request and of Z's key");
 }
@@ -118,8 +118,8 @@ static void least_recently_used_goes(void)
 /* Only the order changed, so the save may be put off. A power cut before it forgets that use, and no key. */
 static void power_cut_before_save(void)
 {
-    answered("C's request, not saved", requested(5000, REQUEST_OF_C, 16), FP_TAKEN, 1, "DEAZC");
-    power_on("power cut, power-on", "CDEAZ");
+    answered("C's request, not saved", requested(5000, REQUEST_OF_C, 16), FP_TAKEN, 1, "DEFGHIJAZC");
+    power_on("power cut, power-on", "CDEFGHIJAZ");
     if (saves != 2)
         stop("no further save");
 }
@@ -127,17 +127,17 @@ static void power_cut_before_save(void)
 /* Z pairs again, and its phone writes the key that is held already. */
 static void written_again(void)
 {
-    served("D's request", requested(1000, REQUEST_OF_D, 16), FP_TAKEN, 2, "CEAZD");
-    pair_z(2000, "CEAZD", "CEADZ");
+    served("D's request", requested(1000, REQUEST_OF_D, 16), FP_TAKEN, 2, "CEFGHIJAZD");
+    pair_z(2000, "CEFGHIJAZD", "CEFGHIJADZ");
     if (saves != 4)
         stop("two more saves, of D's request and of Z's key");
 }
 
 int main(void)
 {
-    flash.length = sizeof FIVE_OWNERS;
-    memcpy(flash.bytes, FIVE_OWNERS, sizeof FIVE_OWNERS);
-    power_on("power-on", "ABCDE");
+    flash.length = sizeof TEN_OWNERS;
+    memcpy(flash.bytes, TEN_OWNERS, sizeof TEN_OWNERS);
+    power_on("power-on", "ABCDEFGHIJ");
     least_recently_used_goes();
     power_cut_before_save();
     written_again();

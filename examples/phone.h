@@ -15,7 +15,7 @@ static const fp_start START = {.identity = {.public_address = {{0xA0, 0xB1, 0xC2
                                .salt = {0xC7, 0xC8}};
 
 /* A list without keys: what is saved at the factory. */
-static const uint8_t EMPTY_LIST[4] = {0x00, 0x02, 0x01, 0x00};
+static const uint8_t EMPTY_LIST[4] = {0x00, 0x02, 0x02, 0x00};
 
 /* The secret that the secure element makes of the phone's public key: Fast Pair's own test case. */
 static const fp_element ELEMENT = {

@@ -49,14 +49,14 @@
  * U+10FFFF. A zero byte is a character as any other and does not end the name. If an earlier product had longer names, do
  * not cut one in the middle of a character: what is left would be no UTF-8.
  *
- * First boot: hand fp_power_on a list without keys, the four bytes 00 02 01 00, and the name that the maker gives the
+ * First boot: hand fp_power_on a list without keys, the four bytes 00 02 02 00, and the name that the maker gives the
  * device, or an empty one (NULL, 0). Begin with fp_off(): a device filled with zeros is another value, its list is no
  * list, and it gets 255.
  *
  * Order of use: the account keys stand in the order in which they were last used, the most recent last. A key is used
  * when it is stored, when it is written again, and when a request of 16 bytes under it is accepted. It then moves to the
- * end, and the others keep their order. If a new key is stored in a full list, the first is removed: the least recently
- * used.
+ * end, and the others keep their order. Ten keys are held at most (FP_MAX_KEYS). If a new key is stored in a full list,
+ * the first is removed: the least recently used.
  *
  * Saving: save the stored list, `next.stored`, and hand it in at the next power-on. It may have changed after these calls,
  * if they got FP_TAKEN, and after nothing else:
@@ -65,16 +65,24 @@
  *     fp_key_based_write      with a request of 16 bytes: the key that fits moved to the end; no key came or went
  *     fp_factory_reset        every key is gone
  *
- * A power-on with FP_TAKEN gives the list that was handed in. Save the list if it differs from what you saved last, and
- * only then: keep a copy of that (memcmp over the whole struct tells). Do not compare with the device before: a change
- * that was not saved at once would be missed. Save so that a power cut leaves the old list or the new one.
+ * A power-on with FP_TAKEN gives the list that was handed in, unless firmware before 4.5.0 wrote it (see "Update" below).
+ * Save the list if it differs from what you saved last, and only then: keep a copy of that (memcmp over the whole struct
+ * tells). Do not compare with the device before: a change that was not saved at once would be missed. Save so that a power
+ * cut leaves the old list or the new one.
  *
  * After fp_account_key_write and fp_factory_reset save before you serve the next event. A power cut before that loses the
  * new owner's key, or brings removed keys back. After fp_key_based_write only the order can have changed, and you may put
  * the save off: until the phone's link is down, or the device is switched off. A power cut before the save brings back the
- * order of the last one. No key is lost by that and none comes back, but a sixth owner may then remove one who used the
+ * order of the last one. No key is lost by that and none comes back, but a new owner may then remove one who used the
  * device more recently than another. Firmware that never saves after a request keeps its owners too, and forgets these
  * uses at every power-on.
+ *
+ * Update: the third byte of a stored list is its version. Firmware before 4.5.0 held five keys and wrote version 0x01.
+ * Such a list is still read, with at most five keys, as the same keys in the same order. What is written is always version
+ * 0x02, so after power-on `next.stored` has that byte changed and no other: the rule above saves it then. Firmware before
+ * 4.5.0 answers 14 to version 0x02, and the owners would have to pair again. If an update may be taken back, keep the old
+ * list beside the new one until it is final. Your room for the saved list and your outputs grow: see FP_STORED_LIST_MAX
+ * and FP_ADVERTISEMENT_MAX.
  *
  * Flash wear: a request under the key that is last already changes nothing. One phone that connects again and again costs
  * no save; two that take turns cost one each time. A recorded request that is sent again gets 8 while its salt is
@@ -126,9 +134,9 @@
 #include <stdint.h>
 
 /* The version of this interface; docs/CHANGES.md says what changed. */
-#define FP_VERSION "4.4.0"
+#define FP_VERSION "4.5.0"
 #define FP_VERSION_MAJOR 4
-#define FP_VERSION_MINOR 4
+#define FP_VERSION_MINOR 5
 #define FP_VERSION_PATCH 0
 
 #ifdef __cplusplus
@@ -179,13 +187,14 @@ enum {
 /* what the radio is to do with the passkey: it confirms with FP_CONFIRM_YES, and with nothing else */
 enum { FP_CONFIRM_UNASKED = 0, FP_CONFIRM_YES = 1, FP_CONFIRM_NO = 2 };
 
-enum { FP_LINKS = 8, FP_MAX_KEYS = 5, FP_MAX_SALTS = 16, FP_RESPONSE_SIZE = 16 };
+enum { FP_LINKS = 8, FP_MAX_KEYS = 10, FP_MAX_SALTS = 16, FP_RESPONSE_SIZE = 16 };
 
-/* the longest stored list (five keys), and the longest advertisement (five keys): outputs of these sizes always do */
-enum { FP_STORED_LIST_MAX = 84, FP_ADVERTISEMENT_MAX = 18 };
+/* the longest stored list and the longest advertisement, with FP_MAX_KEYS keys: outputs of these sizes always do. Beside
+ * Flags (3 bytes) this advertisement leaves 4 of the 31 bytes of a legacy advertising packet */
+enum { FP_STORED_LIST_MAX = 164, FP_ADVERTISEMENT_MAX = 24 };
 
-/* the longest account key filter (five keys) */
-enum { FP_FILTER_MAX = 9 };
+/* the longest account key filter, with FP_MAX_KEYS keys; four bits of the payload say its length */
+enum { FP_FILTER_MAX = 15 };
 
 /* the longest name, and the longest packet with a name: a tag of 8 bytes, a nonce of 8, and the name encrypted */
 enum { FP_NAME_MAX = 64, FP_PACKET_MAX = 80 };
@@ -266,7 +275,7 @@ typedef struct {
                                       in pairing mode; the others are zero, and so are all without a key */
     uint8_t pairing;     /* 1 in pairing mode */
     uint8_t failures;    /* requests in a row that no key fitted */
-    uint8_t reserved[4];
+    uint8_t reserved[6];
 } fp_device;
 
 /* What power-on is given besides the stored list and the name. */
@@ -325,31 +334,32 @@ typedef struct {
 #endif
 FP_LAYOUT(sizeof(fp_session) == 32 && offsetof(fp_session, key) == 13);
 FP_LAYOUT(sizeof(fp_spent_salts) == 152 && offsetof(fp_spent_salts, count) == 144);
-FP_LAYOUT(sizeof(fp_stored) == 96 && offsetof(fp_stored, bytes) == 8);
+FP_LAYOUT(sizeof(fp_stored) == 176 && offsetof(fp_stored, bytes) == 8);
 FP_LAYOUT(sizeof(fp_name) == 72 && offsetof(fp_name, bytes) == 8);
-FP_LAYOUT(sizeof(fp_device) == 624 && offsetof(fp_device, spent) == 264);
-FP_LAYOUT(offsetof(fp_device, name) == 520 && offsetof(fp_device, filter) == 609 && offsetof(fp_device, failures) == 619);
+FP_LAYOUT(sizeof(fp_device) == 712 && offsetof(fp_device, spent) == 264);
+FP_LAYOUT(offsetof(fp_device, name) == 600 && offsetof(fp_device, filter) == 689 && offsetof(fp_device, failures) == 705);
 FP_LAYOUT(sizeof(fp_start) == 17 && sizeof(fp_element) == 33 && sizeof(fp_bond) == 7);
 FP_LAYOUT(sizeof(fp_reply) == 11 && offsetof(fp_reply, packet_length) == 3 && offsetof(fp_reply, bond) == 4);
-FP_LAYOUT(sizeof(fp_outcome) == 640 && sizeof(fp_report) == 16);
+FP_LAYOUT(sizeof(fp_outcome) == 728 && sizeof(fp_report) == 16);
 #undef FP_LAYOUT
 #endif
 
 /* ---- power-on and what concerns no single link */
 
-/* The value before any device was made: zeros, so an empty name too, and the empty list 00 02 01 00 of length 4 in
+/* The value before any device was made: zeros, so an empty name too, and the empty list 00 02 02 00 of length 4 in
  * `stored`. A device filled with zeros has no such list: every call gives it 255. */
 fp_device fp_off(void);
 
 /* Starts from the stored list as fp_stored_list wrote it, and from the name as it was saved: `name_length` bytes, 0 to 64.
- * At first boot these are 00 02 01 00 and the maker's name or none. The list's order is taken as order of use, also that of
- * a list which an earlier version wrote. The clock becomes 0, and start.salt is two fresh random bytes. FP_TAKEN,
+ * At first boot these are 00 02 02 00 and the maker's name or none. A list of version 0x01, from firmware before 4.5.0, is
+ * read too (00 02 01 00 without a key); with more than five keys it is malformed, as is every other version. The list's
+ * order is taken as order of use. The clock becomes 0, and start.salt is two fresh random bytes. FP_TAKEN,
  * FP_LIST_MALFORMED or FP_NOT_A_DEVICE.
  *
  * After FP_LIST_MALFORMED no device was made, and the one handed in comes back. Serve no events with fp_off(). The same
  * bytes get the same answer again: try a second copy if you keep one. It may be the list or the name. Try the list with an
- * empty name (NULL, 0) first: if that is taken, only the name was bad. Else the list is bad: power on with 00 02 01 00 and
- * the name, and at last with 00 02 01 00 and an empty name, which is always taken. Save what was taken. With the list the
+ * empty name (NULL, 0) first: if that is taken, only the name was bad. Else the list is bad: power on with 00 02 02 00 and
+ * the name, and at last with 00 02 02 00 and an empty name, which is always taken. Save what was taken. With the list the
  * owners' keys are lost, and they pair again. */
 fp_outcome fp_power_on(fp_device device, const uint8_t *stored, size_t stored_length, const uint8_t *name,
                        size_t name_length, fp_start start);
@@ -428,7 +438,7 @@ fp_outcome fp_passkey_write(fp_device device, uint8_t link, uint64_t clock, cons
 fp_outcome fp_pairing_ended(fp_device device, uint8_t link, uint64_t clock, uint8_t success);
 
 /* A write to the account key characteristic. With FP_TAKEN the key that was written is the last of next.stored: a new one,
- * for which the first is removed if five were held, or one that was held already and moved to the end. Save the list
+ * for which the first is removed if FP_MAX_KEYS were held, or one that was held already and moved to the end. Save the list
  * before the next event if it is not what you saved last: a key that was last already leaves it as it was. */
 fp_outcome fp_account_key_write(fp_device device, uint8_t link, uint64_t clock, const uint8_t *block,
                                 size_t block_length);
@@ -440,7 +450,7 @@ fp_outcome fp_account_key_write(fp_device device, uint8_t link, uint64_t clock, 
  * and after an accepted request. */
 fp_report fp_advertisement(fp_device device, uint8_t hide, uint8_t *out, size_t out_length);
 
-/* The stored list, for memory that lasts. */
+/* The stored list, for memory that lasts: version 0x02. */
 fp_report fp_stored_list(fp_device device, uint8_t *out, size_t out_length);
 
 /* ---- recording: the record of one event, as docs/RECORDING.md lays it out (see "Recording" above)

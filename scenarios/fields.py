@@ -27,6 +27,7 @@ NAMES = (
     "seeker",
     "times",
     "type",
+    "version",
     "with",
 )
 # The greatest number that each field can have.

@@ -5,12 +5,13 @@ from functools import partial
 
 from reference.rules import events
 from reference.rules.device import Stage
-from reference.rules.stored_list import pack
+from reference.rules.stored_list import WRITTEN, pack
 
 from .fields import Fields, TextError, as_bytes
 from .names import (
     ADDRESSES,
     FILTER_SALT,
+    LIST_ROOM,
     MODEL,
     NONCE,
     PASSKEY_SALT,
@@ -141,9 +142,9 @@ def stored_list(fields):
         return b""
     if fields.has("list"):
         return fields.bytes("list")
-    if fields.bare("no keys"):
-        return pack([])
-    return pack([key_named(f"key {number}") for number in fields.text("keys").split()])
+    numbers = [] if fields.bare("no keys") else fields.text("keys").split()
+    version = fields.sized_bytes("version", 1, bytes([WRITTEN]))
+    return pack([key_named(f"key {number}") for number in numbers], version[0])
 
 
 def new_ble(fields):
@@ -209,9 +210,9 @@ def name_write(fields):
     return events.NameWrite(*link_and_clock(fields), name_data(fields))
 
 
-def output(fields):
+def output(fields, room=ROOM):
     """The lent output, as it is beforehand."""
-    return lent(fields.number("lent", ROOM))
+    return lent(fields.number("lent", room))
 
 
 def pairing_started(fields):
@@ -244,7 +245,7 @@ def brought_to(stage, fields):
 
 
 def stored_list_asked(fields):
-    return StoredListAsked(output(fields))
+    return StoredListAsked(output(fields, LIST_ROOM))
 
 
 def payload_asked(fields):

@@ -32,8 +32,9 @@ SEEKER_SALT = bytes(range(0x71, 0x7D))
 NONCE = bytes(range(0x31, 0x39))
 SEEKER_NONCE = bytes(range(0x21, 0x29))
 
-# The room of a lent output, if its line does not say otherwise: more than anything that is written.
+# The room of a lent output, if its line does not say otherwise: more than anything that is written there.
 ROOM = 90
+LIST_ROOM = 170
 RECORD_ROOM = 1_040
 
 

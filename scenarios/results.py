@@ -2,6 +2,7 @@
 
 from dataclasses import dataclass
 
+from reference.rules.device import MOST_KEYS
 from reference.rules.events import Reply, lent_outputs
 from reference.rules.recording import field_sizes, recorded_values
 
@@ -83,7 +84,7 @@ def from_words(text, asked):
 def grouped(data, asked):
     """Hexadecimal with a space between the parts of a stored list, a payload or a record."""
     if isinstance(asked, StoredListAsked):
-        return parts(data, (2, 1, 1, *[16] * 5))
+        return parts(data, (2, 1, 1, *[16] * MOST_KEYS))
     if isinstance(asked, PayloadAsked):
         # length, service data type and UUID, then 00 and header, filter, 21 and salt
         return parts(data, (1, 3, 2, len(data) - 9, 1, 2) if len(data) > 9 else (1, 3, 3))

@@ -12,7 +12,7 @@ FIRST = {
     "model": ("refusals_without_change", "order_of_checks", "clock_backwards"),
     "clock": ("stage_timers", "lockout"),
     "control": ("overflow_marker", "power_on", "factory_reset", "pairing_mode", "address_rotation", "links"),
-    "device": ("links", "five_keys"),
+    "device": ("links", "ten_keys"),
     "key_based": (
         "personalized_name",
         "fitting_requests",
@@ -27,7 +27,7 @@ FIRST = {
     "name": ("name_write_stages", "name_packets", "utf8_names"),
     "name_packet": ("personalized_name", "name_packets"),
     "utf8": ("utf8_names",),
-    "stored_list": ("malformed_lists", "stored_lists"),
+    "stored_list": ("malformed_lists", "stored_lists", "stored_list_versions"),
     "advertising": ("payloads",),
     "lent_output": ("stored_lists", "payloads"),
     "record_layout": ("records", "recording_bad_records"),

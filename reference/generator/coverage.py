@@ -1,10 +1,11 @@
-"""Counts what a run has reached: answers, answers of each kind of event, stages, uses of account keys, kept filters."""
+"""Counts what a run has reached: answers, answers of each kind of event, stages, uses of keys, kept filters, lists' versions."""
 
 from collections import Counter
 
 from ..rules.device import Stage
 from ..rules.events import KINDS
 from .filters import Filters
+from .list_versions import ListVersions
 from .uses import Uses
 
 ANSWERS = range(16)
@@ -19,6 +20,7 @@ class Coverage:
         self.stages = Counter()
         self.uses = Uses()
         self.filters = Filters()
+        self.list_versions = ListVersions()
 
     def note(self, before, event, after, reply):
         """One event, the states around it, and its reply."""
@@ -28,6 +30,7 @@ class Coverage:
             self.stages[stage] += 1
         self.uses.note(before, event, after, reply)
         self.filters.note(before, event, after, reply)
+        self.list_versions.note(before, event, after, reply)
 
 
 def stages_entered(before, after):
@@ -39,10 +42,10 @@ def stages_entered(before, after):
 
 
 def not_reached(coverage):
-    """The answers, the stages, and the situations of uses and filters that the run has not reached."""
+    """The answers, the stages, and the situations of uses, filters and lists that the run has not reached."""
     answers = [answer for answer in ANSWERS if not coverage.answers[answer]]
     stages = [stage.value for stage in Stage if not coverage.stages[stage]]
-    return answers, stages, [*coverage.uses.missed(), *coverage.filters.missed()]
+    return answers, stages, [*coverage.uses.missed(), *coverage.filters.missed(), *coverage.list_versions.missed()]
 
 
 def table(coverage):
@@ -55,6 +58,6 @@ def table(coverage):
     rows.append("all".ljust(20) + totals)
     stages = ", ".join(f"{stage.value} {coverage.stages[stage]}" for stage in Stage)
     rows.append("stages entered: " + stages)
-    situations = {**coverage.uses.counts, **coverage.filters.counts}
+    situations = {**coverage.uses.counts, **coverage.filters.counts, **coverage.list_versions.counts}
     rows += [f"{times:>7}  {name}" for name, times in situations.items()]
     return "\n".join(rows)

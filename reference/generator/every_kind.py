@@ -1,6 +1,7 @@
 """One event of every kind, with random bytes."""
 
 from ..rules import events
+from ..rules.stored_list import pack
 
 
 def one_of_each(random, clock):
@@ -14,7 +15,7 @@ def one_of_each(random, clock):
         events.LinkDown(link, clock),
         events.PairingMode(random.random() < 0.5, clock),
         events.AddressRotated(data(6), data(2), clock),
-        events.PowerOn(bytes((0, 2, 1, 0)), b"any name", data(6), data(6), data(3), data(2)),
+        events.PowerOn(pack(()), b"any name", data(6), data(6), data(3), data(2)),
         events.FactoryReset(clock),
         events.KeyBasedWrite(link, clock, data(size), *brought, out, second),
         events.PairingStarted(link, clock, 1),

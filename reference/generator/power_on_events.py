@@ -1,13 +1,13 @@
 """Power-on events: with a list and a name, with a malformed list, and with a bad name."""
 
 from ..rules.events import PowerOn
-from ..rules.stored_list import pack
+from ..rules.stored_list import MOST_IN, pack
 from .malformed_lists import MALFORMED
 from .random_names import ill_formed, long_name, some_name
 from .random_values import different_keys, weighted
 
-# Full lists often, so that evictions come soon.
-COUNTS = {0: 2, 1: 2, 2: 2, 3: 2, 4: 3, 5: 4}
+# Full lists often, so that evictions come soon; the older version's most as well.
+COUNTS = {0: 2, 1: 2, 2: 2, 3: 2, 4: 2, 5: 3, 6: 1.5, 7: 1.5, 8: 1.5, 9: 2, 10: 6}
 
 
 def power_on(random, device, history, stored, name):
@@ -26,12 +26,15 @@ def well_formed(random, device, history):
 
 
 def some_list(random, history):
-    return pack(different_keys(random, weighted(random, COUNTS), history.keys))
+    """A list that is read, of any version that has room for its keys."""
+    count = weighted(random, COUNTS)
+    version = random.choice([version for version, most in MOST_IN.items() if count <= most])
+    return pack(different_keys(random, count, history.keys), version)
 
 
 def malformed(random, device, history):
     """Power-on that gets 14 for its list, and now and then could for its name too."""
-    make = random.choice(MALFORMED)
+    make = weighted(random, MALFORMED)
     name = ill_formed(random) if random.random() < 0.1 else some_name(random)
     return power_on(random, device, history, make(random), name)
 

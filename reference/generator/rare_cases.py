@@ -31,8 +31,8 @@ NAMES = (
     "salt free again after 16 others",
     "replay of a short salt",
     "replay of a long salt",
-    "fifth key fits",
-    "list of 5 read",
+    "tenth key fits",
+    "full list read",
     "malformed list with a pairing under way",
     "passkey unequal",
     *name_cases.NAMES,
@@ -68,7 +68,7 @@ class RareCases:
     def power_on(self, before, event, reply):
         if reply.answer == 0:
             self.accepted = []
-            self.met("list of 5 read", len(read_stored_list(event.stored)) == 5)
+            self.met("full list read", len(read_stored_list(event.stored)) == MOST_KEYS)
         elif before is not None:
             malformed = read_stored_list(event.stored) is None
             self.met("malformed list with a pairing under way", malformed and any(before.links))
@@ -104,7 +104,7 @@ class RareCases:
         self.met("tenth failure", reply.answer == 7 and after.failures == MOST_FAILURES)
         rejected = len(event.data) == 80 and not event.accepted
         self.met("rejected point", reply.answer == 7 and rejected)
-        self.met("fifth key fits", reply.answer in (0, 8) and reply.tried == 5)
+        self.met("tenth key fits", reply.answer in (0, 8) and reply.tried == MOST_KEYS)
         if reply.answer == 8 and len(event.data) == 16:
             salt = salt_of(decrypt(before.keys[reply.tried - 1], event.data))
             self.met("replay of a short salt", len(salt) == 2)

@@ -80,8 +80,8 @@ CLOCKS = {
 
 # Events of the whole device; those that drop every K are rare.
 DEVICE_EVENTS = {
-    "link up": 6, "link down": 6, "mode on": 8, "mode off": 5, "rotation": 6, "overflow": 8,
-    "reset": 1.5, "power-on": 3, "malformed list": 14, "bad name": 5,
+    "link up": 8, "link down": 8, "mode on": 10, "mode off": 7, "rotation": 13, "overflow": 13,
+    "reset": 3, "power-on": 8, "malformed list": 24, "bad name": 6,
 }
 
 # Chances of one event, whatever the phase.

@@ -1,5 +1,6 @@
 """Counts what recordings have reached: situations of records, of buffers, and what the replay's lines show."""
 
+from ..rules.device import MOST_KEYS
 from ..rules.record_layout import LAYOUTS
 from ..rules.recording import LENGTH_FIELD, MOST_LENGTH, read_record
 from . import record_situations
@@ -27,7 +28,7 @@ NAMES = (
     KEYS_STAY,
     *(f"shows answer {answer}" for answer in ANSWERS),
     *(f"{name} shows 0" for name in KIND_NAMES),
-    *(f"shows size {size}" for size in range(6)),
+    *(f"shows size {size}" for size in range(MOST_KEYS + 1)),
 )
 
 

@@ -3,9 +3,10 @@
 from dataclasses import dataclass, replace
 from enum import Enum
 
-# "Eight links, 0 to 7. Account key list of at most 5 keys"
+# "Eight links, 0 to 7."
 LINKS = 8
-MOST_KEYS = 5
+# Request (vi): "The limit becomes 10."
+MOST_KEYS = 10
 
 
 class Stage(Enum):

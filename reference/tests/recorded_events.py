@@ -8,7 +8,7 @@ PASSKEY_SALT = bytes(range(0x50, 0x5C))
 NONCE = bytes(range(0x70, 0x78))
 PUBLIC, BLE = bytes.fromhex("A0B1C2D3E4F5"), bytes.fromhex("7A0102030405")
 MODEL, FILTER_SALT = bytes.fromhex("123456"), bytes.fromhex("C7C8")
-NO_KEYS = bytes.fromhex("00020100")
+NO_KEYS = bytes.fromhex("00020200")
 BROUGHT = False, bytes(32), RESPONSE_SALT, NONCE
 MARKER = bytes.fromhex("00020101")
 

@@ -14,7 +14,7 @@ THIRD = bytes.fromhex("99990000AAAABBBBCCCCDDDDEEEEFFFF")
 
 class Filter(unittest.TestCase):
     def test_sizes(self):
-        self.assertEqual([filter_size(n) for n in (1, 2, 3, 4, 5)], [4, 5, 6, 7, 9])
+        self.assertEqual([filter_size(n) for n in range(1, 11)], [4, 5, 6, 7, 9, 10, 11, 12, 13, 15])
 
     def test_places(self):
         self.assertEqual(filter_place(35, 4), (0, 3))
@@ -46,7 +46,7 @@ class Payload(unittest.TestCase):
                 self.assertEqual(advertisement(tested.device, hide).hex(), "06162cfe123456")
 
     def test_layout_for_every_number_of_keys(self):
-        for n in range(1, 6):
+        for n in range(1, 11):
             keys = [account_key(i) for i in range(n)]
             size = filter_size(n)
             for hide in (False, True):
@@ -57,9 +57,10 @@ class Payload(unittest.TestCase):
                 self.assertEqual(payload[6 : 6 + size], account_key_filter(keys, FILTER_SALT))
                 self.assertEqual(payload[6 + size :], b"\x21" + FILTER_SALT)
 
-    def test_five_keys_make_18_bytes(self):
-        keys = [account_key(i) for i in range(5)]
-        self.assertEqual(len(advertisement(DeviceUnderTest(keys).device, False)), 18)
+    def test_five_keys_make_18_bytes_and_ten_24(self):
+        for count, size in ((5, 18), (10, 24)):
+            keys = [account_key(i) for i in range(count)]
+            self.assertEqual(len(advertisement(DeviceUnderTest(keys).device, False)), size)
 
     def test_first_number_of_the_hash_sets_its_bit(self):
         # Counted from the lowest bit of byte 0 on.
@@ -70,7 +71,7 @@ class Payload(unittest.TestCase):
 
 class LentPayload(unittest.TestCase):
     def test_all_output_sizes(self):
-        for n in range(6):
+        for n in range(11):
             device = DeviceUnderTest([account_key(i) for i in range(n)]).device
             whole = advertisement(device, True)
             for size in range(40):

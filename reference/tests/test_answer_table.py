@@ -248,7 +248,7 @@ class DeviceEvents(unittest.TestCase):
         self.assertEqual((device.keys, device.name, device.spent, device.failures), ((), b"", (), 0))
         self.assertEqual((device.filter, device.links, device.clock), (bytes(3), (None,) * 8, 52))
         self.assertEqual((device.pairing_mode, device.ble, device.public), (True, BLE, PUBLIC))
-        self.assertEqual(stored_list(device).hex(), "00020100")
+        self.assertEqual(stored_list(device).hex(), "00020200")
 
     def test_only_power_on_makes_a_device(self):
         tested = DeviceUnderTest()

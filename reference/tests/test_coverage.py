@@ -2,7 +2,7 @@
 
 import unittest
 
-from ..generator import filters, uses
+from ..generator import filters, list_versions, uses
 from ..generator.coverage import Coverage, not_reached
 from ..rules.events import Overflow, Reply
 
@@ -12,7 +12,7 @@ class Covering(unittest.TestCase):
         answers, stages, situations = not_reached(Coverage())
         self.assertEqual(answers, list(range(16)))
         self.assertEqual(stages, ["asked", "pairing", "confirming", "proved", "paired"])
-        self.assertEqual(situations, [*uses.NAMES, *filters.NAMES])
+        self.assertEqual(situations, [*uses.NAMES, *filters.NAMES, *list_versions.NAMES])
 
     def test_counts(self):
         coverage = Coverage()

@@ -8,13 +8,14 @@ from ..generator.filters import Filters
 from ..generator.generate import Generator
 from ..rules import control, pairing
 from ..rules.advertising import account_key_filter, advertisement
+from ..rules.device import MOST_KEYS
 from ..rules.events import AddressRotated, FactoryReset, LinkUp, Overflow, PowerOn
 from ..rules.model import step
 from ..rules.stored_list import pack
 from .device_under_test import BLE, FILTER_SALT, MODEL, NAME, PUBLIC, DeviceUnderTest, account_key, power_on
 
-KEYS = [account_key(i) for i in range(5)]
-NEW = account_key(7)
+KEYS = [account_key(i) for i in range(MOST_KEYS)]
+NEW = account_key(17)
 OTHER_SALT = bytes.fromhex("D1D2")
 
 
@@ -71,13 +72,13 @@ class Building(unittest.TestCase):
         self.assertEqual([name for name in met if "at power-on" not in name], list(situations))
 
     def test_power_on(self):
-        for count in range(6):
+        for count in range(MOST_KEYS + 1):
             tested = Counted(KEYS[:count])
             self.assertEqual(tested.device.filter, account_key_filter(KEYS[:count], FILTER_SALT))
             self.assertEqual(tested.situations(), {f"filter built at power-on, {count} keys": 1})
 
     def test_rotation(self):
-        for count in range(6):
+        for count in range(MOST_KEYS + 1):
             tested = Counted(KEYS[:count])
             tested.send(AddressRotated(BLE, OTHER_SALT, 0))
             self.check(tested, 1, f"filter built at a rotation, {count} keys")
@@ -87,7 +88,7 @@ class Building(unittest.TestCase):
         tested = Counted(KEYS)
         before = tested.device.filter
         tested.send(AddressRotated(BLE, FILTER_SALT, 0))
-        self.check(tested, 1, "filter built at a rotation, 5 keys", "filter built at a rotation to the same salt")
+        self.check(tested, 1, "filter built at a rotation, 10 keys", "filter built at a rotation to the same salt")
         self.assertEqual(tested.device.filter, before)
 
     def test_pairing_mode(self):
@@ -102,11 +103,11 @@ class Building(unittest.TestCase):
         self.assertEqual(tested.built, 2)
 
     def test_new_keys(self):
-        for count in range(1, 6):
+        for count in range(1, MOST_KEYS + 1):
             tested = Counted(KEYS[:count])
             self.assertEqual(tested.write(NEW), 0)
             self.check(tested, 1, f"filter built for a new key, {count} before it", *self.moved(count))
-            self.assertEqual(len(tested.device.keys), min(count + 1, 5))
+            self.assertEqual(len(tested.device.keys), min(count + 1, MOST_KEYS))
 
     def moved(self, count):
         """The owner's request moves the first key, unless it is alone."""
@@ -127,7 +128,7 @@ class Building(unittest.TestCase):
             self.assertEqual(tested.device.filter, before)
 
     def test_reset(self):
-        for count, situations in ((4, ()), (5, ("filter emptied by a reset of a full list",))):
+        for count, situations in ((9, ()), (10, ("filter emptied by a reset of a full list",))):
             tested = Counted(KEYS[:count])
             tested.send(FactoryReset(0))
             self.check(tested, 1, *situations)

@@ -4,6 +4,7 @@ import unittest
 
 from ..generator import seeker_blocks
 from ..rules.aes import decrypt
+from ..rules.device import MOST_KEYS
 from ..rules.events import FactoryReset, KeyBasedWrite
 from ..rules.key_based import salt_of
 from .device_under_test import (
@@ -19,7 +20,7 @@ from .device_under_test import (
     account_key,
 )
 
-KEYS = [account_key(i) for i in range(5)]
+KEYS = [account_key(i) for i in range(MOST_KEYS)]
 
 
 class Secret(unittest.TestCase):
@@ -38,9 +39,9 @@ class Trying(unittest.TestCase):
             self.assertEqual(tested.device.links[0].key, key)
 
     def test_none_fits(self):
-        for n in range(6):
+        for n in range(MOST_KEYS + 1):
             tested = DeviceUnderTest(KEYS[:n])
-            self.assertEqual(tested.request(account_key(9), clock=4), 7)
+            self.assertEqual(tested.request(account_key(19), clock=4), 7)
             self.assertEqual((tested.reply.tried, tested.reply.out), (n, OUT))
             self.assertEqual((tested.device.failures, tested.device.failed_at), (1, 4))
 
@@ -57,7 +58,7 @@ class Trying(unittest.TestCase):
     def test_a_failure_leaves_the_links_k(self):
         tested = DeviceUnderTest(KEYS)
         tested.bring_to("proved", KEYS[1])
-        tested.request(account_key(9))
+        tested.request(account_key(19))
         self.assertEqual(tested.stage(), "proved")
 
 
@@ -89,7 +90,7 @@ class PublicKey(unittest.TestCase):
     def test_sixteen_bytes_never_read_the_secret(self):
         self.tested.pairing_mode(True)
         self.assertEqual(self.tested.request(seeker_blocks.session_key(SECRET)), 7)
-        self.assertEqual(self.tested.reply.tried, 5)
+        self.assertEqual(self.tested.reply.tried, 10)
         block = self.tested.request_block(KEYS[2])
         write = KeyBasedWrite(0, 0, block, False, bytes(32), RESPONSE_SALT, NONCE, OUT, PACKET)
         self.assertEqual(self.tested.send(write), 0)

@@ -4,12 +4,13 @@ import unittest
 
 from ..generator import seeker_blocks
 from ..rules.aes import decrypt
+from ..rules.device import MOST_KEYS
 from ..rules.events import AccountKeyWrite
 from ..rules.stored_list import stored_list
 from .device_under_test import OUT, PASSKEY_SALT, DeviceUnderTest, account_key
 
-KEYS = [account_key(i) for i in range(5)]
-NEW = account_key(7)
+KEYS = [account_key(i) for i in range(MOST_KEYS)]
+NEW = account_key(17)
 STAGES = ("asked", "pairing", "confirming", "proved", "paired")
 NEEDED = {
     "asked": lambda tested: tested.pairing_started(),
@@ -137,7 +138,7 @@ class AccountKeys(unittest.TestCase):
         return tested
 
     def test_new_one_goes_last(self):
-        for n in range(1, 5):
+        for n in range(1, MOST_KEYS):
             tested = self.write(KEYS[:n], NEW)
             self.assertEqual(tested.device.keys, (*KEYS[:n], NEW))
 
@@ -147,7 +148,7 @@ class AccountKeys(unittest.TestCase):
         self.assertEqual(stored_list(tested.device)[4:20], KEYS[1])
         self.assertEqual(tested.request(KEYS[0]), 7)
         self.assertEqual(tested.request(NEW), 0)
-        self.assertEqual(tested.reply.tried, 5)
+        self.assertEqual(tested.reply.tried, 10)
 
     def test_refused_blocks_drop_k(self):
         block = seeker_blocks.account_key_block(KEYS[0], NEW)
@@ -161,7 +162,7 @@ class AccountKeys(unittest.TestCase):
 
     def test_k_is_used_once(self):
         tested = self.write(KEYS[:1], NEW)
-        self.assertEqual(tested.account_key_write(KEYS[0], account_key(8)), 9)
+        self.assertEqual(tested.account_key_write(KEYS[0], account_key(18)), 9)
 
 
 if __name__ == "__main__":

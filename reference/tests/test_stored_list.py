@@ -1,7 +1,10 @@
 """The stored list: its bytes, each malformed form, and power-on from it."""
 
 import unittest
+from unittest import mock
 
+from .. import older_stored_list
+from ..rules import control
 from ..rules.advertising import account_key_filter
 from ..rules.device import Device
 from ..rules.events import PowerOn, Reply
@@ -10,13 +13,14 @@ from ..rules.model import step
 from ..rules.stored_list import pack, read_stored_list, stored_list
 from .device_under_test import BLE, FILTER_SALT, MODEL, NAME, PUBLIC, DeviceUnderTest, account_key
 
-KEYS = [account_key(i) for i in range(6)]
+KEYS = [account_key(i) for i in range(11)]
 
 MALFORMED = {
     "nothing": b"",
     "one byte": b"\x00",
     "length only": bytes.fromhex("0002"),
     "no count": bytes.fromhex("000201"),
+    "no count, version 2": bytes.fromhex("000202"),
     "length too small": bytes.fromhex("00010100"),
     "length too large": bytes.fromhex("00030100"),
     "length little-endian": bytes.fromhex("02000100"),
@@ -26,8 +30,11 @@ MALFORMED = {
     "a key cut short": pack(KEYS[:2])[:-1],
     "a key missing": pack(KEYS[:2])[:-16],
     "version 0": bytes.fromhex("00020000"),
-    "version 2": bytes.fromhex("00120201") + KEYS[0],
-    "six keys": pack(KEYS),
+    "version 3": bytes.fromhex("00120301") + KEYS[0],
+    **{f"version 1, {n} keys": pack(KEYS[:n], 1) for n in range(6, 12)},
+    "eleven keys": pack(KEYS),
+    "eleven keys, the count says ten": bytes.fromhex("00b2020a") + b"".join(KEYS),
+    "ten keys, the count says eleven": bytes.fromhex("00a2020b") + b"".join(KEYS[:10]),
     "first key starts with 0x05": pack([b"\x05" + KEYS[0][1:], KEYS[1]]),
     "last key starts with 0x00": pack(KEYS[:4] + [bytes(16)]),
     "a key twice, neighbours": pack([KEYS[0], KEYS[0]]),
@@ -42,15 +49,34 @@ def power_on_from(stored):
     return PowerOn(stored, NAME, PUBLIC, BLE, MODEL, FILTER_SALT)
 
 
+def power_on_of_older_firmware(stored):
+    """The answer of firmware before request (vi): its reader in place of ours."""
+    with mock.patch.object(control, "read_stored_list", older_stored_list.read_stored_list):
+        return step(None, power_on_from(stored))[1].answer
+
+
 class StoredList(unittest.TestCase):
     def test_empty(self):
-        self.assertEqual(stored_list(DeviceUnderTest().device).hex(), "00020100")
+        self.assertEqual(stored_list(DeviceUnderTest().device).hex(), "00020200")
 
     def test_read_undoes_write(self):
-        for n in range(6):
+        for n in range(11):
             device = DeviceUnderTest(KEYS[:n]).device
             self.assertEqual(len(stored_list(device)), 4 + 16 * n)
             self.assertEqual(read_stored_list(stored_list(device)), KEYS[:n])
+
+    def test_both_versions_are_read(self):
+        for n in range(6):
+            self.assertEqual(read_stored_list(pack(KEYS[:n], 1)), KEYS[:n])
+            self.assertEqual(read_stored_list(pack(KEYS[:n], 2)), KEYS[:n])
+
+    def test_older_firmware(self):
+        """ "Old firmware given a 0x02 list answers 14", and its own lists are read as it reads them."""
+        for n in range(11):
+            written = stored_list(DeviceUnderTest(KEYS[:n]).device)
+            self.assertEqual(power_on_of_older_firmware(written), 14)
+        for data in (*map(older_stored_list.pack, (KEYS[:n] for n in range(7))), *MALFORMED.values()):
+            self.assertEqual(read_stored_list(data), older_stored_list.read_stored_list(data))
 
     def test_order_is_kept(self):
         device = DeviceUnderTest([KEYS[2], KEYS[0], KEYS[1]]).device
@@ -62,10 +88,10 @@ class StoredList(unittest.TestCase):
                 self.assertIsNone(read_stored_list(data))
 
     def test_lent_output(self):
-        for n in range(6):
+        for n in range(11):
             device = DeviceUnderTest(KEYS[:n]).device
             whole = stored_list(device)
-            for size in (0, 3, len(whole) - 1, len(whole), len(whole) + 1, 100):
+            for size in (0, 3, len(whole) - 1, len(whole), len(whole) + 1, 200):
                 out = bytes([0xEE]) * size
                 if size < len(whole):
                     expected = (13, out)

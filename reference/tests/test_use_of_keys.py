@@ -5,6 +5,7 @@ import unittest
 from ..generator import seeker_blocks
 from ..rules.account_keys import used, with_key
 from ..rules.advertising import advertisement
+from ..rules.device import MOST_KEYS
 from ..rules.events import (
     AccountKeyWrite,
     AddressRotated,
@@ -17,9 +18,9 @@ from ..rules.events import (
 from ..rules.stored_list import pack, stored_list
 from .device_under_test import BLE, SECRET_OF_ACCOUNT_KEY, DeviceUnderTest, account_key, power_on
 
-KEYS = tuple(account_key(i) for i in range(5))
-A, B, C, D, E = KEYS
-NEW = account_key(7)
+KEYS = tuple(account_key(i) for i in range(MOST_KEYS))
+A, B, C, *MORE, D, E = KEYS
+NEW = account_key(17)
 # K of an 80-byte request that can be held as an account key.
 HELD_K = seeker_blocks.session_key(SECRET_OF_ACCOUNT_KEY)
 
@@ -31,7 +32,7 @@ def moved(keys, key):
 
 
 def every_key_of_every_list():
-    for size in range(1, 6):
+    for size in range(1, MOST_KEYS + 1):
         for key in KEYS[:size]:
             yield KEYS[:size], key
 
@@ -59,14 +60,14 @@ class Using(OrderTest):
             self.assertEqual(with_key(keys, key), moved(keys, key))
 
     def test_a_new_key_goes_last(self):
-        for size in range(5):
+        for size in range(MOST_KEYS):
             self.assertEqual(with_key(KEYS[:size], NEW), (*KEYS[:size], NEW))
         self.assertEqual(with_key(KEYS, NEW), (*KEYS[1:], NEW))
 
 
 class Stored(OrderTest):
-    def test_into_lists_of_one_to_four(self):
-        for size in range(1, 5):
+    def test_into_lists_with_room(self):
+        for size in range(1, MOST_KEYS):
             tested = DeviceUnderTest(KEYS[:size])
             self.write(tested, NEW)
             self.assert_order(tested, *KEYS[:size], NEW)
@@ -81,7 +82,7 @@ class Stored(OrderTest):
     def test_into_a_full_list(self):
         tested = DeviceUnderTest(KEYS)
         self.write(tested, NEW)
-        self.assert_order(tested, B, C, D, E, NEW)
+        self.assert_order(tested, B, C, *MORE, D, E, NEW)
 
 
 class WrittenAgain(OrderTest):
@@ -105,7 +106,7 @@ class WrittenAgain(OrderTest):
         tested.bring_to("paired", A)
         self.request(tested, B, link=1)
         self.assertEqual(tested.account_key_write(A, C), 0)
-        self.assert_order(tested, D, E, A, B, C)
+        self.assert_order(tested, *MORE, D, E, A, B, C)
 
 
 class Requested(OrderTest):
@@ -120,16 +121,16 @@ class Requested(OrderTest):
 
     def test_the_next_place_follows_the_new_order(self):
         tested = DeviceUnderTest(KEYS)
-        for key, place in ((B, 2), (B, 5), (A, 1), (E, 3), (A, 4), (C, 1)):
+        for key, place in ((B, 2), (B, 10), (A, 1), (E, 8), (A, 9), (C, 1)):
             self.request(tested, key)
             self.assertEqual(tested.reply.tried, place)
-        self.assert_order(tested, D, B, E, A, C)
+        self.assert_order(tested, *MORE, D, B, E, A, C)
 
     def test_in_pairing_mode(self):
         tested = DeviceUnderTest(KEYS)
         tested.pairing_mode(True)
         self.request(tested, C)
-        self.assert_order(tested, A, B, D, E, C)
+        self.assert_order(tested, A, B, *MORE, D, E, C)
 
     def test_on_two_links(self):
         tested = DeviceUnderTest((A, B, C))
@@ -191,7 +192,7 @@ class Refused(OrderTest):
         self.refused(tested, 13, lambda: tested.request(A, clock=60, packet=bytes(79)))
         self.refused(tested, 4, lambda: tested.request(A, clock=49))
         self.request(tested, A, clock=60)
-        self.assert_order(tested, B, C, D, E, A)
+        self.assert_order(tested, B, C, *MORE, D, E, A)
 
     def test_6_with_a_held_key(self):
         tested = DeviceUnderTest((HELD_K, A))
@@ -207,8 +208,8 @@ class EightyBytes(OrderTest):
 
     def test_k_equals_a_held_key_at_each_place(self):
         self.assertEqual(HELD_K[0], 0x04)
-        for place in range(5):
-            keys = (*KEYS[:place], HELD_K, *KEYS[place:4])
+        for place in range(MOST_KEYS):
+            keys = (*KEYS[:place], HELD_K, *KEYS[place:-1])
             tested = DeviceUnderTest(keys)
             tested.pairing_mode(True)
             self.assertEqual(tested.public_request(secret=SECRET_OF_ACCOUNT_KEY), 0)
@@ -216,7 +217,7 @@ class EightyBytes(OrderTest):
             self.assert_order(tested, *keys)
             # The same key by 16 bytes is used.
             self.request(tested, HELD_K)
-            self.assert_order(tested, *KEYS[:4], HELD_K)
+            self.assert_order(tested, *KEYS[:-1], HELD_K)
 
     def test_refused(self):
         tested = DeviceUnderTest((HELD_K, A))
@@ -242,64 +243,64 @@ class Evicted(OrderTest):
         tested = DeviceUnderTest(KEYS)
         self.request(tested, A, link=3)
         self.write(tested, NEW)
-        self.assert_order(tested, C, D, E, A, NEW)
+        self.assert_order(tested, C, *MORE, D, E, A, NEW)
         self.assertEqual(tested.request(B, link=1), 7)
         self.request(tested, A, link=1)
-        self.assertEqual(tested.reply.tried, 4)
+        self.assertEqual(tested.reply.tried, 9)
 
     def test_the_first_stays_if_it_was_written_again(self):
         tested = DeviceUnderTest(KEYS)
         self.write(tested, A)
         self.write(tested, NEW)
-        self.assert_order(tested, C, D, E, A, NEW)
+        self.assert_order(tested, C, *MORE, D, E, A, NEW)
 
     def test_a_refused_request_saves_no_key(self):
         tested = DeviceUnderTest(KEYS)
         self.request(tested, E, salt=bytes(8))
         self.assertEqual(tested.request(A, salt=bytes(8)), 8)
         self.write(tested, NEW)
-        self.assert_order(tested, B, C, D, E, NEW)
+        self.assert_order(tested, B, C, *MORE, D, E, NEW)
 
     def test_80_bytes_save_no_key(self):
         tested = DeviceUnderTest((HELD_K, *KEYS[1:]))
         tested.pairing_mode(True)
         self.assertEqual(tested.public_request(secret=SECRET_OF_ACCOUNT_KEY, link=3), 0)
         self.write(tested, NEW)
-        self.assert_order(tested, B, C, D, E, NEW)
+        self.assert_order(tested, B, C, *MORE, D, E, NEW)
         self.assertEqual(tested.stage(3), "asked")
 
-    def test_with_four_keys_none_is_removed(self):
-        tested = DeviceUnderTest(KEYS[:4])
+    def test_with_one_place_left_none_is_removed(self):
+        tested = DeviceUnderTest(KEYS[:-1])
         self.request(tested, A)
         self.write(tested, NEW)
-        self.assert_order(tested, B, C, D, A, NEW)
+        self.assert_order(tested, B, C, *MORE, D, A, NEW)
 
     def test_the_writing_owner_was_the_first(self):
         tested = DeviceUnderTest(KEYS)
         tested.bring_to("paired", A)
         self.assertEqual(tested.account_key_write(A, NEW), 0)
-        self.assert_order(tested, C, D, E, A, NEW)
+        self.assert_order(tested, C, *MORE, D, E, A, NEW)
 
     def test_a_removed_key_is_new_when_it_is_written_again(self):
         tested = DeviceUnderTest(KEYS)
         self.write(tested, NEW)
         self.write(tested, A)
-        self.assert_order(tested, C, D, E, NEW, A)
+        self.assert_order(tested, C, *MORE, D, E, NEW, A)
 
     def test_all_used_in_turn(self):
         tested = DeviceUnderTest(KEYS)
-        for key in (E, D, C, B, A):
+        for key in reversed(KEYS):
             self.request(tested, key)
         self.write(tested, NEW)
-        self.assert_order(tested, D, C, B, A, NEW)
+        self.assert_order(tested, *KEYS[-2::-1], NEW)
 
     def test_a_removed_key_stays_k_of_its_link(self):
         tested = DeviceUnderTest(KEYS)
         self.request(tested, A, link=3)
-        for key in (B, C, D, E):
+        for key in KEYS[1:]:
             self.request(tested, key)
         self.write(tested, NEW)
-        self.assert_order(tested, B, C, D, E, NEW)
+        self.assert_order(tested, B, C, *MORE, D, E, NEW)
         self.assertEqual(tested.device.links[3].key, A)
         self.assertEqual(tested.pairing_started(link=3), 0)
 
@@ -309,7 +310,7 @@ class OtherEvents(OrderTest):
         tested = DeviceUnderTest(KEYS)
         self.request(tested, A)
         self.request(tested, E, link=1)
-        order = B, C, D, A, E
+        order = B, C, *MORE, D, A, E
         for send in (
             lambda: tested.name_write(A, b"name"),
             lambda: tested.pairing_started(),
@@ -331,7 +332,7 @@ class OtherEvents(OrderTest):
         tested.bring_to("proved", A)
         self.request(tested, B, link=1)
         tested.pairing_ended()
-        self.assert_order(tested, C, D, E, A, B)
+        self.assert_order(tested, C, *MORE, D, E, A, B)
 
     def test_factory_reset(self):
         tested = DeviceUnderTest(KEYS)
@@ -344,10 +345,10 @@ class Read(OrderTest):
     """ "an old one is read as if its order were use" """
 
     def test_the_first_is_the_least_recently_used(self):
-        tested = DeviceUnderTest((C, A, E, B, D))
-        self.assert_order(tested, C, A, E, B, D)
+        tested = DeviceUnderTest((C, A, E, *MORE, B, D))
+        self.assert_order(tested, C, A, E, *MORE, B, D)
         self.write(tested, NEW)
-        self.assert_order(tested, A, E, B, D, NEW)
+        self.assert_order(tested, A, E, *MORE, B, D, NEW)
 
     def test_power_on_uses_no_key(self):
         tested = DeviceUnderTest(KEYS)
@@ -360,13 +361,13 @@ class Read(OrderTest):
         self.request(tested, B)
         stored = tested.device.keys
         self.assertEqual(tested.send(power_on(stored)), 0)
-        self.assert_order(tested, A, C, D, E, B)
+        self.assert_order(tested, A, C, *MORE, D, E, B)
 
     def test_a_refused_power_on(self):
         tested = DeviceUnderTest(KEYS)
         self.request(tested, A)
         self.assertEqual(tested.send(power_on((*KEYS, NEW))), 14)
-        self.assert_order(tested, B, C, D, E, A)
+        self.assert_order(tested, B, C, *MORE, D, E, A)
 
 
 class Payload(OrderTest):

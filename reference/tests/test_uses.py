@@ -4,11 +4,12 @@ import unittest
 
 from ..generator.seeker_blocks import session_key
 from ..generator.uses import Uses
+from ..rules.device import MOST_KEYS
 from ..rules.events import FactoryReset
 from .device_under_test import SECRET, SECRET_OF_ACCOUNT_KEY, DeviceUnderTest, account_key
 
-KEYS = [account_key(i) for i in range(5)]
-NEW = account_key(7)
+KEYS = [account_key(i) for i in range(MOST_KEYS)]
+NEW = account_key(17)
 HELD_K = session_key(SECRET_OF_ACCOUNT_KEY)
 KEPT = "key stored longest ago kept, for its use by "
 
@@ -42,7 +43,7 @@ class Requests(unittest.TestCase):
             self.assertEqual(tested.counts(), {f"full list, request by the key at place {place}": 1})
 
     def test_no_full_list(self):
-        tested = Counted(KEYS[:4])
+        tested = Counted(KEYS[:-1])
         tested.request(KEYS[0])
         self.assertEqual(tested.counts(), {})
 
@@ -72,12 +73,12 @@ class Writes(unittest.TestCase):
     def test_places_of_a_full_list(self):
         for place, key in enumerate(KEYS, start=1):
             tested = Counted(KEYS)
-            tested.write(KEYS[4], key)
+            tested.write(KEYS[-1], key)
             self.assertEqual(tested.uses.counts[f"full list, key at place {place} written again"], 1)
 
     def test_no_full_list(self):
-        tested = Counted(KEYS[:4])
-        tested.write(KEYS[3], KEYS[0])
+        tested = Counted(KEYS[:-1])
+        tested.write(KEYS[-2], KEYS[0])
         self.assertEqual(tested.counts(), {})
 
     def evictions(self, tested):
@@ -86,24 +87,24 @@ class Writes(unittest.TestCase):
     def test_the_key_stored_longest_ago_is_evicted(self):
         tested = Counted(KEYS)
         tested.request(KEYS[1])
-        tested.write(KEYS[4], NEW)
+        tested.write(KEYS[-1], NEW)
         self.assertEqual(self.evictions(tested), {})
 
     def test_it_is_kept(self):
         tested = Counted(KEYS)
         tested.request(KEYS[0])
-        tested.write(KEYS[4], NEW)
+        tested.write(KEYS[-1], NEW)
         self.assertEqual(self.evictions(tested), {"a request": 1})
         tested = Counted(KEYS)
-        tested.write(KEYS[4], KEYS[0])
-        tested.write(KEYS[4], NEW)
+        tested.write(KEYS[-1], KEYS[0])
+        tested.write(KEYS[-1], NEW)
         self.assertEqual(self.evictions(tested), {"being written again": 1})
 
     def test_the_last_use_counts(self):
         tested = Counted(KEYS)
         tested.request(KEYS[0])
-        tested.write(KEYS[4], KEYS[0])
-        tested.write(KEYS[4], NEW)
+        tested.write(KEYS[-1], KEYS[0])
+        tested.write(KEYS[-1], NEW)
         self.assertEqual(self.evictions(tested), {"being written again": 1})
 
     def test_a_reset_begins_another_order(self):

@@ -40,7 +40,7 @@ class Printing(Texts):
 
     def test_the_device_is_another_one(self):
         text = "power-on  keys 1 2 -> 0\nnew recording -> no line\nrecorded  overflow marker -> 1 marker 14 0\n"
-        stored = "0022 01 02 041112131415161718191a1b1c1d1e1f 042122232425262728292a2b2c2d2e2f"
+        stored = "0022 02 02 041112131415161718191a1b1c1d1e1f 042122232425262728292a2b2c2d2e2f"
         self.assertIsNone(self.difference(f"{text}stored list  -> 0, writes {stored}"))
 
     def test_bytes_behind_a_record_count(self):

@@ -32,6 +32,16 @@ EDITS = (
         "    for key in keys:\n        digest",
         "    for key in keys[-1:]:\n        digest",
     ),
+    *(
+        (
+            f"keys behind place {most} set no bits",
+            "    for key in keys:\n        digest",
+            f"    for key in keys[:{most}]:\n        digest",
+        )
+        for most in (5, 9)
+    ),
+    ("the filter of more than five keys has the size of five", SIZE, SIZE.replace("count", "min(count, 5)")),
+    ("the filter of ten keys has the size of nine", SIZE, SIZE.replace("count", "min(count, 9)")),
     ("show and hide are exchanged", HEADER, HEADER.replace("2 if hide else 0", "0 if hide else 2")),
     ("hide is 1", HEADER, HEADER.replace("2 if hide", "1 if hide")),
     ("the prompt is always shown", HEADER, "filter_size(len(keys)) * 16"),

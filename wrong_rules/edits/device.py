@@ -5,8 +5,7 @@ HELD = "    links = device.links[:link] + (session,) + device.links[link + 1 :]\
 EDITS = (
     ("a ninth link", "LINKS = 8", "LINKS = 9"),
     ("seven links", "LINKS = 8", "LINKS = 7"),
-    ("four keys at most", "MOST_KEYS = 5", "MOST_KEYS = 4"),
-    ("six keys at most", "MOST_KEYS = 5", "MOST_KEYS = 6"),
+    *((f"{most} keys at most", "MOST_KEYS = 10", f"MOST_KEYS = {most}") for most in range(5, 10)),
     (
         "a change of a link drops K on the later ones",
         HELD,

@@ -121,6 +121,10 @@ EDITS = (
         SEARCH,
         SEARCH.replace("enumerate(keys, start=1)", "list(enumerate(keys, start=1))[1 if len(keys) > 1 else 0 :]"),
     ),
+    *(
+        (f"keys behind place {most} are not tried", SEARCH, SEARCH.replace("keys,", f"keys[:{most}],"))
+        for most in (5, 9)
+    ),
     (
         "trying goes on when the salt is remembered",
         "        if fits(device, request):\n",

@@ -197,7 +197,7 @@ EDITS = (
     ("pairing success uses K", SUCCESS, uses_k("    ") + SUCCESS),
     ("a refused account key write uses K", BAD_KEY, uses_k("        ") + BAD_KEY),
     ("a new key leaves the filter", NEW_KEY, "    if False:\n"),
-    ("a key that evicts leaves the filter", NEW_KEY, NEW_KEY.replace(":\n", " and len(device.keys) < 5:\n")),
+    ("a key that evicts leaves the filter", NEW_KEY, NEW_KEY.replace(":\n", " and len(device.keys) < 10:\n")),
     ("a new key in pairing mode leaves the filter", NEW_KEY, NEW_KEY.replace(":\n", " and not device.pairing_mode:\n")),
     ("the first key leaves the filter", NEW_KEY, NEW_KEY.replace(":\n", " and device.keys:\n")),
     (
@@ -210,7 +210,7 @@ EDITS = (
     (
         "the bits of the evicted key stay",
         BUILT,
-        BUILT + "        if len(device.keys) == 5:\n"
+        BUILT + "        if len(device.keys) == 10:\n"
         "            kept = bytes(a | b for a, b in zip(device.filter, kept))\n",
     ),
     (

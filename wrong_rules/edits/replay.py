@@ -6,7 +6,7 @@ KEYS = "len(device.keys) if device else 0"
 COUNTED = f"        keys = {KEYS}\n"
 EARLY = "    if device is None and not isinstance(event, PowerOn):\n        return None, 14\n"
 # A device without keys, and its answer before the first power-on.
-NO_KEYS = 'step(None, PowerOn(bytes((0, 2, 1, 0)), b"", bytes(6), bytes(6), bytes(3), bytes(2)))[0]'
+NO_KEYS = 'step(None, PowerOn(bytes((0, 2, 2, 0)), b"", bytes(6), bytes(6), bytes(3), bytes(2)))[0]'
 BY_NO_KEYS = EARLY.replace("        return", f"        answer = step({NO_KEYS}, event)[1].answer\n        return")
 STEP = "    device, reply = step(device, event)\n"
 ANSWER = "    return device, reply.answer\n"

@@ -16,10 +16,10 @@ use Rattle.laws.proofs.All.{all-get, all-take}
 use Rattle.laws.proofs.Choice.{and-false, or-false, or-right}
 use Rattle.laws.proofs.Lists.{paste-at, set4-front}
 use Rattle.laws.specs.BigEndian.{number2}
-use Rattle.laws.specs.Choice.{_and_, _or_}
+use Rattle.laws.specs.Choice.{if_then_else_, _and_, _or_}
 use Rattle.laws.specs.Lists.{All}
 use Rattle.account_keys.specs.Keys.{limit, Sized, member, owned, held, kept}
-use Rattle.account_keys.specs.StoredList.{keyAt, keysIn, keyBytes, wellSized, noReading, readingOf, reading, writing}
+use Rattle.account_keys.specs.StoredList.{keyAt, keysIn, keyBytes, wellSized, noReading, readingOf, readingUnder, olderReading, reading, writingUnder, writing}
 use Rattle.account_keys.specs.declared.AccountKey.{AccountKey}
 use Rattle.account_keys.specs.declared.AccountKeys.{AccountKeys}
 use Rattle.account_keys.specs.declared.ListForm.the-variants.{WellFormed}
@@ -27,7 +27,7 @@ use Rattle.basics.specs.Bytes.{same, sixteenAt}
 use Rattle.basics.specs.Output.{reportOf, placed}
 use Rattle.basics.specs.declared.Answer.the-variants.{Taken, OutputTooShort}
 use Rattle.basics.specs.declared.Report.{Report}
-use Rattle.account_keys.proofs.Laws.{absentKey, held-kept}
+use Rattle.account_keys.proofs.Laws.{absentKey, held-kept, Kept-kept, kept-push}
 use Rattle.basics.proofs.Laws.{same-comm, same-refl}
 use Rattle.basics.proofs.Lent.{left-alone, all-written}
 
@@ -142,81 +142,125 @@ pub reading-owned : (l : List AccountKey) → owned l ≡ true → readingOf l
 reading-owned l e = rw e
 
 -- ---- the header's tests, in the order in which they are made
-module _ (b : List ℕ) where
-  pub shorter-than-header : length b < 4 → reading b ≡ noReading
-  unfolding reading wellSized
-  shorter-than-header h = rw (lt-leb 4 (length b) h)
 
-  module _ (h : 4 ≤ length b) where
-    pub other-length : (number2 (getD b 0 0) (getD b 1 0) ≡ length b - 2 → ⊥) → reading b ≡ noReading
-    unfolding reading wellSized
-    other-length e = rw (le-leb 4 (length b) h, ne-eqb (number2 (getD b 0 0) (getD b 1 0)) (length b - 2) e)
+shorter-than-header : (version most : ℕ) (b : List ℕ) → length b < 4 → readingUnder version most b ≡ noReading
+unfolding readingUnder wellSized
+shorter-than-header version most b h = rw (lt-leb 4 (length b) h)
 
-    module _ (e : number2 (getD b 0 0) (getD b 1 0) ≡ length b - 2) where
-      pub other-version : (getD b 2 0 ≡ 0x01 → ⊥) → reading b ≡ noReading
-      unfolding reading wellSized
-      other-version v =
+module _ (version most : ℕ) (b : List ℕ) (h : 4 ≤ length b) where
+  pub other-length : (number2 (getD b 0 0) (getD b 1 0) ≡ length b - 2 → ⊥) → readingUnder version most b ≡ noReading
+  unfolding readingUnder wellSized
+  other-length e = rw (le-leb 4 (length b) h, ne-eqb (number2 (getD b 0 0) (getD b 1 0)) (length b - 2) e)
+
+  module _ (e : number2 (getD b 0 0) (getD b 1 0) ≡ length b - 2) where
+    pub other-version : (getD b 2 0 ≡ version → ⊥) → readingUnder version most b ≡ noReading
+    unfolding readingUnder wellSized
+    other-version v =
+        rw (
+          le-leb 4 (length b) h,
+          eq-eqb (number2 (getD b 0 0) (getD b 1 0)) (length b - 2) e,
+          ne-eqb (getD b 2 0) version v,
+        )
+
+    module _ (v : getD b 2 0 ≡ version) where
+      pub too-many-keys : most < getD b 3 0 → readingUnder version most b ≡ noReading
+      unfolding readingUnder wellSized
+      too-many-keys n =
           rw (
             le-leb 4 (length b) h,
             eq-eqb (number2 (getD b 0 0) (getD b 1 0)) (length b - 2) e,
-            ne-eqb
-                (getD b 2 0) 1 v,
+            eq-eqb (getD b 2 0) version v,
+            lt-leb (getD b 3 0) most n,
           )
 
-      module _ (v : getD b 2 0 ≡ 0x01) where
-        pub too-many-keys : limit < getD b 3 0 → reading b ≡ noReading
-        unfolding reading wellSized
-        too-many-keys n =
+      module _ (n : getD b 3 0 ≤ most) where
+        pub other-size : (length b ≡ 4 + 16 * getD b 3 0 → ⊥) → readingUnder version most b ≡ noReading
+        unfolding readingUnder wellSized
+        other-size s =
             rw (
               le-leb 4 (length b) h,
               eq-eqb (number2 (getD b 0 0) (getD b 1 0)) (length b - 2) e,
-              eq-eqb (getD b 2 0) 1 v,
-              lt-leb (getD b 3 0) limit n,
+              eq-eqb (getD b 2 0) version v,
+              le-leb (getD b 3 0) most n,
+              ne-eqb (length b) (4 + 16 * getD b 3 0) s,
             )
 
-        module _ (n : getD b 3 0 ≤ limit) where
-          pub other-size : (length b ≡ 4 + 16 * getD b 3 0 → ⊥) → reading b ≡ noReading
-          unfolding reading wellSized
-          other-size s =
-              rw (
-                le-leb 4 (length b) h,
-                eq-eqb (number2 (getD b 0 0) (getD b 1 0)) (length b - 2) e,
-                eq-eqb (getD b 2 0) 1 v,
-                le-leb (getD b 3 0) limit n,
-                ne-eqb (length b) (4 + 16 * getD b 3 0) s,
-              )
+        pub sizes-agree : length b ≡ 4 + 16 * getD b 3 0 → readingUnder version most b ≡ readingOf (keysIn b (getD b 3 0))
+        unfolding readingUnder wellSized
+        sizes-agree s =
+            rw (
+              le-leb 4 (length b) h,
+              eq-eqb (number2 (getD b 0 0) (getD b 1 0)) (length b - 2) e,
+              eq-eqb (getD b 2 0) version v,
+              le-leb (getD b 3 0) most n,
+              eq-eqb (length b) (4 + 16 * getD b 3 0) s,
+            )
 
-          pub sizes-agree : length b ≡ 4 + 16 * getD b 3 0 → reading b ≡ readingOf (keysIn b (getD b 3 0))
-          unfolding reading wellSized
-          sizes-agree s =
-              rw (
-                le-leb 4 (length b) h,
-                eq-eqb (number2 (getD b 0 0) (getD b 1 0)) (length b - 2) e,
-                eq-eqb (getD b 2 0) 1 v,
-                le-leb (getD b 3 0) limit n,
-                eq-eqb (length b) (4 + 16 * getD b 3 0) s,
-              )
+-- ---- the version decides under which a list is read
+module _ (b : List ℕ) where
+  pub read-older : getD b 2 0 ≡ 0x01 → olderReading b ≡ reading b
+  unfolding reading
+  read-older v = rw (eq-eqb (getD b 2 0) 0x01 v)
+
+  pub read-newer : (getD b 2 0 ≡ 0x01 → ⊥) → readingUnder 0x02 limit b ≡ reading b
+  unfolding reading
+  read-newer v = rw (ne-eqb (getD b 2 0) 0x01 v)
+
+  -- a list without a whole header is none under either
+  pub no-header : length b < 4 → reading b ≡ noReading
+  unfolding reading
+  no-header h = rw (shorter-than-header 0x01 5 b h, shorter-than-header 0x02 limit b h) (either (eqb (getD b 2 0) 0x01))
+    where
+      either : (x : Bool) → (if x then noReading else noReading) ≡ noReading
+      either true = refl
+      either false = refl
+
+-- ---- a turn of the loop that looks for a key among those before it
+module _ (b : List ℕ) (k : AccountKey) where
+  member-more : (i : ℕ) → member (keysIn b (i + 1)) k ≡ (member (keysIn b i) k or same (keyAt b i .bytes) (k .bytes))
+  member-more i = ap (λ (l : List AccountKey). member l k) (keysIn-more b i) ∙ member-snoc (keysIn b i) (keyAt b i) k
+
+  pub passed-another : (i : ℕ) → member (keysIn b i) k ≡ false → same (keyAt b i .bytes) (k .bytes) ≡ false
+      → member (keysIn b (i + 1)) k ≡ false
+  passed-another i m s = member-more i ∙ rw (m, s)
+
+  member-longer : (i d : ℕ) → member (keysIn b i) k ≡ true → member (keysIn b (i + d)) k ≡ true
+  unfolding keysIn
+  member-longer i zero e = rw add-zero e
+  member-longer i (suc d) e = rw (add-suc i d, member-snoc (keysIn b (i + d)) (keyAt b (i + d)) k, member-longer i d e)
+
+  -- a key that is found is among all that are looked at
+  pub found-among : (i n : ℕ) → i < n → same (keyAt b i .bytes) (k .bytes) ≡ true → member (keysIn b n) k ≡ true
+  found-among i n h s =
+      let m : n ≡ i + 1 + (n - (i + 1)) = omega arith in
+      rw m (member-longer (i + 1) (n - (i + 1)) (member-more i ∙ or-right (member (keysIn b i) k) (same (keyAt b i .bytes) (k .bytes)) s))
 
 -- what the loop that reads asks and builds, said of the keys passed
 module _ (b : List ℕ) (i : ℕ) {ks : AccountKeys} {block : List ℕ} (e : ks ≡ kept (keysIn b i))
     (f : block ≡ sixteenAt (4 + 16 * i) b) where
-  pub member-keysIn : {r t : Bool} → r ≡ member (held ks) (record { bytes = block }) → r ≡ t → member (keysIn b i)
-      (keyAt b i) ≡ t
-  member-keysIn g h = sym (ap₂ member (ap held e ∙ held-kept (keysIn b i)) (λ j. record { bytes = f j })) ∙ sym g ∙ h
+  pub member-keysIn : {r t : Bool} → r ≡ member (keysIn b i) (record { bytes = block }) → r ≡ t
+      → member (keysIn b i) (keyAt b i) ≡ t
+  member-keysIn g h = ap (member (keysIn b i)) (λ j. record { bytes = sym f j }) ∙ sym g ∙ h
 
-  pub kept-keysIn : {r : AccountKeys} → r ≡ kept (held ks ++ (record { bytes = block } ∷ [])) → r ≡ kept
-      (keysIn b (i + 1))
-  kept-keysIn g =
-      g
-      ∙ ap₂ (λ (l : List AccountKey) (k : AccountKey). kept (l ++ (k ∷ [])))
-      (ap held e ∙ held-kept (keysIn b i)) (λ j. record { bytes = f j })
+  -- the next key stored in its place
+  pub kept-keysIn : i < limit
+      → _≡_ {A = AccountKeys} (record { keys = set (ks .keys) i (record { bytes = block }); count = i + 1 })
+      (kept (keysIn b (i + 1)))
+  kept-keysIn h =
+      let l : List AccountKey = keysIn b i in
+      let n : length l ≡ i = length-keysIn b i in
+      (λ j. record { keys = set (e j .keys) i (record { bytes = f j }); count = i + 1 })
+      ∙ ap (λ (m : ℕ). record { keys = set (kept l .keys) m (keyAt b i); count = m + 1 }) (sym n)
+      ∙ kept-push (kept l) (keyAt b i) (Kept-kept l (omega arith)) (omega arith)
+      ∙ ap (λ (x : List AccountKey). kept (x ++ (keyAt b i ∷ []))) (held-kept l)
       ∙ ap kept (sym (keysIn-more b i))
 
 -- ---- the whole of what is written
 
-pub length-writing : (l : List AccountKey) → All Sized l → length (writing l) ≡ 2 + 16 * length l + 2
-unfolding writing
-length-writing l p = rw (length-keyBytes l p) (omega arith)
+pub length-writing : (version : ℕ) (l : List AccountKey) → All Sized l
+    → length (writingUnder version l) ≡ 2 + 16 * length l + 2
+unfolding writingUnder
+length-writing version l p = rw (length-keyBytes l p) (omega arith)
 
 -- four bytes stored, and the part after them lent and filled with k
 lent-after-four : (o x p k : List ℕ) (a b c d m : ℕ) → x ≡ a ∷ b ∷ c ∷ d ∷ drop 4 o → length k ≡ m
@@ -240,10 +284,10 @@ lent-after-four o x p k a b c d m e f g =
 -- a list of n keys and an output
 module _ (l : List AccountKey) (p : All Sized l) (n : ℕ) (e : n ≡ length l) (o : List ℕ) where
   length-writing-of : length (writing l) ≡ 2 + 16 * n + 2
-  length-writing-of = length-writing l p ∙ ap (λ (m : ℕ). 2 + 16 * m + 2) (sym e)
+  length-writing-of = length-writing 0x02 l p ∙ ap (λ (m : ℕ). 2 + 16 * m + 2) (sym e)
 
-  writing-is : n < 256 → (2 + 16 * n) / 256 % 256 ∷ (2 + 16 * n) % 256 ∷ 1 ∷ n % 256 ∷ keyBytes l ≡ writing l
-  unfolding writing
+  writing-is : n < 256 → (2 + 16 * n) / 256 % 256 ∷ (2 + 16 * n) % 256 ∷ 2 ∷ n % 256 ∷ keyBytes l ≡ writing l
+  unfolding writingUnder
   writing-is few = rw (mod-eq-of-lt few, e, div-one)
 
   -- the output is too short for the list
@@ -254,20 +298,20 @@ module _ (l : List AccountKey) (p : All Sized l) (n : ℕ) (e : n ≡ length l) 
 
   -- the header stored and the keys written after it
   pub writing-stored : n < 256 → 2 + 16 * n + 2 ≤ length o → (x q : List ℕ)
-      → x ≡ set (set (set (set o 0 ((2 + 16 * n) / 256 % 256)) 1 ((2 + 16 * n) % 256)) 2 1) 3 (n % 256)
+      → x ≡ set (set (set (set o 0 ((2 + 16 * n) / 256 % 256)) 1 ((2 + 16 * n) % 256)) 2 2) 3 (n % 256)
       → q ≡ keyBytes l ++ drop (16 * n) (take (length x - 4) (drop 4 x))
       → (_≡_ {A = Report} (record { answer = Taken; length = 2 + 16 * n + 2 }) (reportOf (writing l) o))
       × (putMid 4 (length x - 4) x q ≡ placed (writing l) o)
   writing-stored few h x q f g =
       let size : length (keyBytes l) ≡ 16 * n = length-keyBytes l p ∙ ap (λ (m : ℕ). 16 * m) (sym e) in
-      let front : x ≡ (2 + 16 * n) / 256 % 256 ∷ (2 + 16 * n) % 256 ∷ 1 ∷ n % 256 ∷ drop 4 o =
-      f ∙ set4-front o ((2 + 16 * n) / 256 % 256) ((2 + 16 * n) % 256) 1 (n % 256) (omega arith)
+      let front : x ≡ (2 + 16 * n) / 256 % 256 ∷ (2 + 16 * n) % 256 ∷ 2 ∷ n % 256 ∷ drop 4 o =
+      f ∙ set4-front o ((2 + 16 * n) / 256 % 256) ((2 + 16 * n) % 256) 2 (n % 256) (omega arith)
       in
-      let text : (2 + 16 * n) / 256 % 256 ∷ (2 + 16 * n) % 256 ∷ 1 ∷ n % 256 ∷ keyBytes l
+      let text : (2 + 16 * n) / 256 % 256 ∷ (2 + 16 * n) % 256 ∷ 2 ∷ n % 256 ∷ keyBytes l
       ≡ writing l = writing-is few in
       let end : 4 + 16 * n ≡ length (writing l) = omega (arith, length-writing-of) in
       all-written (writing l) o (omega (arith, length-writing-of)) refl (sym length-writing-of)
-      (lent-after-four o x q (keyBytes l) ((2 + 16 * n) / 256 % 256) ((2 + 16 * n) % 256) 1 (n % 256)
+      (lent-after-four o x q (keyBytes l) ((2 + 16 * n) / 256 % 256) ((2 + 16 * n) % 256) 2 (n % 256)
       (16 * n) front size g
       ∙ ap₂ (λ (w : List ℕ) (m : ℕ). w ++ drop m o) text end)
 

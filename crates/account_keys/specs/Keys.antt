@@ -12,9 +12,9 @@ use Rattle.account_keys.specs.declared.AccountKey.{AccountKey}
 use Rattle.account_keys.specs.declared.AccountKeys.{AccountKeys}
 use Rattle.basics.specs.Bytes.{same}
 
--- "Account key list of at most 5 keys"
+-- "Account key list of at most 5 keys"; document 02 (vi): "The limit becomes 10."
 abbrev pub limit : ℕ
-limit = 5
+limit = 10
 
 abbrev pub zeroKey : AccountKey
 zeroKey = record { bytes = replicate 16 0 }

@@ -9,7 +9,7 @@ use lib.ListN.{length, getD}
 use Rattle.laws.specs.Choice.{if_then_else_}
 use Rattle.laws.specs.Lists.{All}
 use Rattle.account_keys.specs.Keys.{Valid, Sized, limit, zeroKey, held, kept, member, without, used, owned, stored}
-use Rattle.account_keys.specs.StoredList.{storedListMax, writing, reading}
+use Rattle.account_keys.specs.StoredList.{storedListMax, writingUnder, writing, noReading, readingUnder, olderReading, reading}
 use Rattle.account_keys.specs.declared.AccountKey.{AccountKey}
 use Rattle.account_keys.specs.declared.AccountKeys.{AccountKeys}
 use Rattle.account_keys.specs.declared.ListForm.the-variants.{WellFormed}
@@ -64,16 +64,34 @@ UsesValid = (ks : AccountKeys) (k : AccountKey) → Valid ks → Valid (kept (us
 abbrev pub WritesWithinMax : Type 0
 WritesWithinMax = (ks : AccountKeys) → Valid ks → length (writing (held ks)) ≤ storedListMax
 
--- "The stored list reads back as it was written."
+-- "The stored list reads back as it was written", of every version and every bound that the list keeps
+abbrev pub ReadsBackUnder : Type 0
+ReadsBackUnder =
+    (version most : ℕ) (ks : AccountKeys) → Valid ks → length (held ks) ≤ most
+    → readingUnder version most (writingUnder version (held ks)) ≡ record { form = WellFormed; keys = ks }
+
+-- so of what is written now
 abbrev pub ReadsBack : Type 0
 ReadsBack =
     (ks : AccountKeys) → Valid ks → reading (writing (held ks)) ≡ record { form = WellFormed; keys = ks }
 
--- a list that reads is the writing of what it reads as, and that is valid
+-- a list that reads under a version is that version's writing of what it reads as
 abbrev pub OnlyWritings : Type 0
 OnlyWritings =
-    (b : List ℕ) → All (λ x. x < 256) b → reading b .form ≡ WellFormed
-    → Valid (reading b .keys) × (writing (held (reading b .keys)) ≡ b)
+    (version most : ℕ) (b : List ℕ) → All (λ x. x < 256) b → readingUnder version most b .form ≡ WellFormed
+    → writingUnder version (held (readingUnder version most b .keys)) ≡ b
+
+-- whatever reads is valid
+abbrev pub ReadsValid : Type 0
+ReadsValid = (b : List ℕ) → reading b .form ≡ WellFormed → Valid (reading b .keys)
+
+-- document 02 (vi): "Version 0x01 is still read, with at most 5": its lists read, or are refused, as they were before
+abbrev pub OlderStillRead : Type 0
+OlderStillRead = (b : List ℕ) → getD b 2 0 ≡ 0x01 → reading b ≡ olderReading b
+
+-- "Old firmware given a 0x02 list answers 14", and so given any list that is written now
+abbrev pub OlderRefuses : Type 0
+OlderRefuses = (b : List ℕ) → getD b 2 0 ≡ 0x02 → olderReading b ≡ noReading
 
 -- an account key write keeps the list valid
 abbrev pub StoresValid : Type 0

@@ -1,4 +1,5 @@
--- Document 01, "Stored list": how the account keys are written to memory that lasts, and read back.
+-- Document 01, "Stored list": how the account keys are written to memory that lasts, and read back; document 02 (vi): the list's two
+-- versions.
 -- Assumes nothing.
 use mathlib.Core.Bool.{Bool}
 use mathlib.Core.List.{List, [], _∷_, _++_}
@@ -18,9 +19,14 @@ unfoldable pub keyBytes : List AccountKey → List ℕ
 keyBytes [] = []
 keyBytes (k ∷ ks) = k .bytes ++ keyBytes ks
 
--- "Two-byte big-endian length of what follows, version byte 0x01, count n, then n keys of 16 bytes. Length is 2 + 16n"
-unfoldable pub writing : List AccountKey → List ℕ
-writing l = bytes 2 (2 + 16 * length l) ++ (0x01 ∷ length l ∷ keyBytes l)
+-- "Two-byte big-endian length of what follows, version byte 0x01, count n, then n keys of 16 bytes. Length is 2 + 16n", for every
+-- version
+unfoldable pub writingUnder : ℕ → List AccountKey → List ℕ
+writingUnder version l = bytes 2 (2 + 16 * length l) ++ (version ∷ length l ∷ keyBytes l)
+
+-- document 02 (vi): "what we write is always 0x02"
+abbrev pub writing : List AccountKey → List ℕ
+writing l = writingUnder 0x02 l
 
 -- "Writing needs 4 + 16n bytes": the most bytes that a stored list has
 abbrev pub storedListMax : ℕ
@@ -35,13 +41,14 @@ unfoldable pub keysIn : List ℕ → ℕ → List AccountKey
 keysIn b zero = []
 keysIn b (suc n) = keysIn b n ++ (keyAt b n ∷ [])
 
--- "Two-byte big-endian length of what follows", "version byte 0x01", "n above 5" is malformed, "Length is 2 + 16n"
-unfoldable pub wellSized : List ℕ → Bool
-wellSized b =
+-- "Two-byte big-endian length of what follows", "version byte 0x01", "n above 5" is malformed, "Length is 2 + 16n", for every version
+-- and the most keys that a list of it has
+unfoldable pub wellSized : ℕ → ℕ → List ℕ → Bool
+wellSized version most b =
     leb 4 (length b)
     and eqb (number2 (getD b 0 0) (getD b 1 0)) (length b - 2)
-    and eqb (getD b 2 0) 0x01
-    and leb (getD b 3 0) limit
+    and eqb (getD b 2 0) version
+    and leb (getD b 3 0) most
     and eqb (length b) (4 + 16 * getD b 3 0)
 
 abbrev pub noReading : Reading
@@ -52,5 +59,13 @@ abbrev pub readingOf : List AccountKey → Reading
 readingOf l = if owned l then record { form = WellFormed; keys = kept l } else noReading
 
 -- a list is read whole, or not at all
+unfoldable pub readingUnder : ℕ → ℕ → List ℕ → Reading
+readingUnder version most b = if wellSized version most b then readingOf (keysIn b (getD b 3 0)) else noReading
+
+-- document 01's reader, and so that of firmware before request (vi)
+abbrev pub olderReading : List ℕ → Reading
+olderReading b = readingUnder 0x01 5 b
+
+-- document 02 (vi): "Version 0x01 is still read, with at most 5"; "version 0x02, with count up to 10"
 unfoldable pub reading : List ℕ → Reading
-reading b = if wellSized b then readingOf (keysIn b (getD b 3 0)) else noReading
+reading b = if eqb (getD b 2 0) 0x01 then olderReading b else readingUnder 0x02 limit b

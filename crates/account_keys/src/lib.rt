@@ -1,5 +1,5 @@
 // The owners' account keys, and the stored list: document 01, "The device and its events" and "Stored list"; document 02 (ii), the
-// order of use.
+// order of use, and (vi), ten keys and the list's two versions.
 use basics::Answer;
 use basics::Report;
 ghost use mathlib.Core.Path.{_≡_};
@@ -9,15 +9,22 @@ ghost use lib.ListN.{length, drop};
 ghost use Rattle.basics.specs.Output.{reportOf, placed};
 ghost use Rattle.account_keys.specs.Keys as rule;
 ghost use Rattle.account_keys.specs.Keys.{Valid, Kept, limit, held, kept, member, stored};
-ghost use Rattle.account_keys.specs.StoredList.{keyBytes, keysIn, noReading, readingOf, reading, writing};
+ghost use Rattle.account_keys.specs.StoredList.{keyBytes, keysIn, noReading, readingOf, readingUnder, reading, writing};
 
 // The most keys that are held.
-pub const LIMIT: usize = 5;
+pub const LIMIT: usize = 10;
 // The keys that stay when one is removed from a full list.
 const LAST: usize = LIMIT - 1;
 
 // The most bytes that a stored list has: specs/StoredList.antt, `storedListMax`.
 pub const STORED_LIST_MAX: usize = 4 + 16 * LIMIT;
+
+// The version of a stored list that is written.
+const NEWER: u8 = 0x02;
+// The version that is still read.
+const OLDER: u8 = 0x01;
+// The most keys that a list of the older version has.
+const OLDER_LIMIT: usize = 5;
 
 // The key that a phone wrote to become an owner.
 pub struct AccountKey {
@@ -166,7 +173,7 @@ impl AccountKeys {
         }
         out[0] = ((rest >> 8) % 256) as u8;
         out[1] = (rest % 256) as u8;
-        out[2] = 0x01;
+        out[2] = NEWER;
         out[3] = (n % 256) as u8;
         self.write_keys(&mut out[4..]);
         Report {
@@ -197,14 +204,25 @@ pub fn read(src: &[u8]) -> Reading
     if src.len() < 4 {
         return malformed();
     }
+    if src[2] == OLDER {
+        return read_under(src, OLDER, OLDER_LIMIT);
+    }
+    read_under(src, NEWER, LIMIT)
+}
+
+// The keys of a list of one version, with at most `most` keys.
+fn read_under(src: &[u8], version: u8, most: usize) -> Reading
+    requires { ⌜ (4 ≤ length (now src)) × (most ≤ limit) ⌝ }
+    ensures { λ r. ⌜ r ≡ readingUnder version most (now (src .entry)) ⌝ }
+{
     if (src[0] as usize) * 256 + (src[1] as usize) != src.len() - 2 {
         return malformed();
     }
-    if src[2] != 0x01 {
+    if src[2] != version {
         return malformed();
     }
     let n = src[3] as usize;
-    if LIMIT < n {
+    if most < n {
         return malformed();
     }
     if src.len() != 4 + 16 * n {
@@ -223,6 +241,22 @@ pub fn malformed() -> Reading
     }
 }
 
+// Whether a key is among the first `n` of a list: compared with the list's bytes, so that no list of keys is copied.
+fn occurs(src: &[u8], n: usize, key: AccountKey) -> bool
+    requires { ⌜ (n ≤ limit) × (4 + 16 * n ≤ length (now src)) ⌝ }
+    ensures { λ r. ⌜ r ≡ member (keysIn (now (src .entry)) n) key ⌝ }
+{
+    let mut i = 0;
+    while i < n {
+        let block = basics::sixteen(src, 4 + 16 * i);
+        if basics::same(&block, &key.bytes) {
+            return true;
+        }
+        i += 1;
+    }
+    false
+}
+
 // The `n` keys after the header, each checked against those before it.
 fn read_keys(src: &[u8], n: usize) -> Reading
     requires { ⌜ (n ≤ limit) × (length (now src) ≡ 4 + 16 * n) ⌝ }
@@ -237,12 +271,13 @@ fn read_keys(src: &[u8], n: usize) -> Reading
         if first != 0x04 {
             return malformed();
         }
-        if keys.holds(key) {
+        if occurs(src, i, key) {
             return malformed();
         }
-        let more = keys.push(key);
-        keys = more;
+        // stored here, and not by `push`: that would copy the list at every key
+        keys.keys[i] = key;
         i += 1;
+        keys.count = i;
     }
     Reading {
         form: ListForm::WellFormed,

@@ -2,7 +2,7 @@
 -- Assumes nothing.
 use mathlib.Core.Path.{refl}
 use Rattle.account_keys.specs.Keys.{owned}
-use Rattle.account_keys.specs.StoredList.{keysIn, wellSized, reading}
+use Rattle.account_keys.specs.StoredList.{keysIn, wellSized, readingUnder, reading}
 use Rattle.names.specs.Name.{isName}
 use Rattle.names.specs.Utf8.{continues}
 use Rattle.provider.specs.Rules.Control.{powerOn}
@@ -12,5 +12,5 @@ use Rattle.fp_replay.specs.Samples.{SamplePrinted}
 use Rattle.fp_replay.specs.Text.{decimalWithin, text, texts}
 
 pub sample-printed : SamplePrinted
-unfolding divideWithin kindRead readPowerOn readAs powerOn reading wellSized keysIn owned isName continues answered shownOf linesFrom decimalWithin text texts
-sample-printed = refl
+unfolding divideWithin kindRead readPowerOn readAs powerOn reading readingUnder wellSized keysIn owned isName continues answered shownOf linesFrom decimalWithin text texts
+sample-printed = (refl, refl)

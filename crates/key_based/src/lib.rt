@@ -278,7 +278,7 @@ fn try_owners(ble: Address, public: Address, keys: AccountKeys, block: [u8; 16])
     last
 }
 
-// One of at most five keys, after `before` others.
+// One of the keys held, after `before` others.
 fn try_key(ble: Address, public: Address, key: [u8; 16], block: [u8; 16], before: u8) -> Search
     requires { ⌜ before < limit ⌝ }
     ensures { λ r. ⌜ r ≡ handedOver block (tried ble public block before (key ∷ [])) ⌝ }

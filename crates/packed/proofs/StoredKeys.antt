@@ -3,7 +3,7 @@
 use mathlib.Core.Bool.{Bool, true, false}
 use mathlib.Core.List.{List, _++_}
 use mathlib.Core.Path.{_≡_, refl, ap, _∙_}
-use Prim.Native.Nat.{ℕ, _≤_}
+use Prim.Native.Nat.{ℕ}
 use native.Mathlib.Omega.{arith}
 use lib.Dec.{leb}
 use lib.ListN.{length, take, replicate}
@@ -12,9 +12,7 @@ use Rattle.laws.proofs.Lists.{drop-replicate}
 use Rattle.laws.proofs.Padded.{take-padded}
 use Rattle.laws.specs.Choice.{if_then_else_}
 use Rattle.laws.specs.Lists.{padded}
-use Rattle.account_keys.proofs.ReadBack.{reads-back, reads-valid}
-use Rattle.account_keys.proofs.Laws.{count-held}
-use Rattle.account_keys.proofs.StoredList.{length-writing}
+use Rattle.account_keys.proofs.ReadBack.{writes-within-max, reads-back, reads-valid}
 use Rattle.account_keys.specs.Keys.{held}
 use Rattle.account_keys.specs.StoredList.{reading, noReading, writing}
 use Rattle.account_keys.specs.declared.AccountKeys.{AccountKeys}
@@ -29,14 +27,10 @@ use Rattle.provider.proofs.Theorems.ValidParts.{no-keys-valid}
 use Rattle.provider.specs.Demands.Validity.{Valid}
 use Rattle.account_keys.specs.Keys as keys
 
-pub list-fits : (ks : AccountKeys) → keys.Valid ks → length (writing (held ks)) ≤ storedListMax
-list-fits ks v =
-    omega (arith, length-writing (held ks) (v .sized), v .canonical .few, count-held ks (v .canonical))
-
 pub list-back : (ks : AccountKeys) → keys.Valid ks → listOf (packedKeys ks) ≡ record { form = WellFormed; keys = ks }
 list-back ks v =
     let fits : leb (length (writing (held ks))) storedListMax ≡ true =
-    le-leb (length (writing (held ks))) storedListMax (list-fits ks v) in
+    le-leb (length (writing (held ks))) storedListMax (writes-within-max ks v) in
     rw (fits, take-padded storedListMax 0 (writing (held ks))) (reads-back ks v)
 
 -- what writing into an empty room leaves
@@ -46,7 +40,7 @@ pub list-packed : (ks : AccountKeys) → keys.Valid ks → {r : Report} {b : Lis
     → _≡_ {A = FpStored} (record { length = r .length; bytes = b; reserved = replicate 4 0 }) (packedKeys ks)
 list-packed ks v {r} {b} p q =
     let w : List ℕ = writing (held ks) in
-    let fits : leb (length w) storedListMax ≡ true = le-leb (length w) storedListMax (list-fits ks v) in
+    let fits : leb (length w) storedListMax ≡ true = le-leb (length w) storedListMax (writes-within-max ks v) in
     let size : r .length ≡ length w = ap (λ (x : Report). x .length) p ∙ rw fits in
     let bytes : b ≡ padded storedListMax 0 w = q ∙ rw fits (ap (λ l. w ++ l) (drop-replicate (length w) storedListMax 0)) in
     λ i. record { length = size i; bytes = bytes i; reserved = replicate 4 0 }

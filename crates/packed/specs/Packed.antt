@@ -115,7 +115,7 @@ packed d =
       filter = d .beacon .filter;
       pairing = flag (d .beacon .pairing);
       failures = d .guard .failures .count;
-      reserved = replicate 4 0;
+      reserved = replicate 6 0;
     }
 
 abbrev pub guardOf : FpDevice → Guard

@@ -47,7 +47,7 @@ pub struct FpDevice {
     pub filter: [u8; FILTER_MAX],
     pub pairing: u8,
     pub failures: u8,
-    pub reserved: [u8; 4],
+    pub reserved: [u8; 6],
 }
 
 // All that an answer hands out; `confirm` is 0 where the radio is asked nothing, 1 for yes, 2 for no; `packet` is the length of the

@@ -47,7 +47,7 @@ pub fn pack(device: Device) -> FpDevice
         filter: filter,
         pairing: flag(device.beacon.pairing),
         failures: device.guard.failures.count,
-        reserved: [0u8; 4],
+        reserved: [0u8; 6],
     }
 }
 

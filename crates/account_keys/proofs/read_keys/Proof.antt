@@ -9,12 +9,10 @@ use borrow.Author.Needs.{needs}
 use Rattle.laws.proofs.Loops.{at-limit}
 use Rattle.account_keys.specs.Keys.{kept, owned}
 use Rattle.account_keys.specs.StoredList.{readingOf, keysIn}
-use Rattle.account_keys.specs.declared.AccountKeys.{AccountKeys}
 use Rattle.account_keys.specs.declared.ListForm.the-variants.{WellFormed}
 use Rattle.account_keys.specs.declared.Reading.{Reading}
 use Rattle.account_keys.proofs.read_keys.Tie as tie
-use Rattle.account_keys.proofs.Laws.{Kept-kept}
-use Rattle.account_keys.proofs.StoredList.{member-keysIn, kept-keysIn, reading-refused, owned-wrong-first, owned-twice, owned-next, reading-owned, length-keysIn}
+use Rattle.account_keys.proofs.StoredList.{member-keysIn, kept-keysIn, reading-refused, owned-wrong-first, owned-twice, owned-next, reading-owned}
 use Rattle.account_keys.proofs.read_keys.Statement.{statement}
 
 abbrev Inv-loop : tie.InvT-loop
@@ -42,13 +40,11 @@ returns c =
     (owned-wrong-first (given .src .now) i
     (λ e. c .before .if1 .taken (ap (λ (l : List ℕ). getD l 0 0) (read .sixteen .ensures) ∙ e))))
 
-holds-requires : tie.Need-holds-requires Inv-loop μ-loop
-holds-requires c κs =
+occurs-requires : tie.Need-occurs-requires Inv-loop μ-loop
+occurs-requires c κs =
     let turn = c .before .before .before in
     let start = turn .before .before .before in
-    let src = start .args .src .now in
-    rw (turn .loop .inv .1) (Kept-kept (keysIn src (turn .loop .i))
-    (omega (arith, start .pre .0, length-keysIn src (turn .loop .i))))
+    (omega (arith, start .pre .0), omega (arith, start .pre .1))
 
 returns-2 : tie.Need-returns-2 Inv-loop μ-loop
 returns-2 c =
@@ -58,40 +54,24 @@ returns-2 c =
     let src = given .src .now in
     let i = turn .loop .i in
     c .malformed2 .ensures ∙ sym (reading-refused src (i + 1) (given .n) (omega arith)
-    (owned-twice src i (member-keysIn src i (turn .loop .inv .1) (read .sixteen .ensures) (c .before .before .holds .ensures)
+    (owned-twice src i (member-keysIn src i (turn .loop .inv .1) (read .sixteen .ensures) (c .before .before .occurs .ensures)
     (c .before .if2 .taken))))
 
-push-requires : tie.Need-push-requires Inv-loop μ-loop
-push-requires c κs =
-    let taken = c .before .before .before .before in
+loop-again : tie.Need-loop-again Inv-loop μ-loop
+loop-again c =
+    let first = c .before .before in
+    let read = first .before in
+    let taken = read .before in
     let turn = taken .before in
     let start = turn .before .before .before in
     let src = start .args .src .now in
     let i = turn .loop .i in
-    let few = start .pre .0 in (
-      rw (turn .loop .inv .1) (Kept-kept (keysIn src i) (omega (arith, few, length-keysIn src i))),
-      omega (
-        arith,
-        few,
-        taken .loop-test .taken,
-        ap (λ (x : AccountKeys). x .count) (turn .loop .inv .1),
-        length-keysIn src i,
-      ),
-    )
-
-loop-again : tie.Need-loop-again Inv-loop μ-loop
-loop-again c =
-    let first = c .before .before .before in
-    let read = first .before in
-    let turn = read .before .before in
-    let src = turn .before .before .before .args .src .now in
-    let i = turn .loop .i in
     let keys = turn .loop .inv .1 in
     let block = read .sixteen .ensures in (
       search needs,
-      kept-keysIn src i keys block (c .push .ensures),
+      kept-keysIn src i keys block (omega (arith, start .pre .0, taken .loop-test .taken)),
       owned-next src i (turn .loop .inv .2) (sym (ap (λ (l : List ℕ). getD l 0 0) block) ∙ first .if1 .left)
-          (member-keysIn src i keys block (c .before .before .holds .ensures) (c .before .if2 .left)),
+          (member-keysIn src i keys block (c .before .occurs .ensures) (c .if2 .left)),
     )
 
 returns-3 : tie.Need-returns-3 Inv-loop μ-loop
@@ -117,10 +97,11 @@ read-keys-spec =
     (λ c. search needs)
     (λ c κs. search needs)
     returns
-    holds-requires
+    occurs-requires
     (λ c κs. search needs)
     returns-2
-    push-requires
+    (λ c. search needs)
+    (λ c. search needs)
     (λ c. search needs)
     (λ c. search needs)
     loop-again

@@ -27,7 +27,7 @@ use Rattle.provider.proofs.Theorems.Validity.{stays-valid, after-valid}
 use Rattle.provider.proofs.Theorems.Ways as event
 use Rattle.provider.proofs.Theorems.Ways.{way}
 use Rattle.provider.specs.Demands.Names.{sessionThen}
-use Rattle.provider.specs.Demands.Use.{restarts, mayUse, toldKey, keyOf, Uses, OrderKept, OrderOfUse, Evicts, FirstOfFive, EvictsFirst, EvictsLeastRecentlyUsed}
+use Rattle.provider.specs.Demands.Use.{restarts, mayUse, toldKey, keyOf, Uses, OrderKept, OrderOfUse, Evicts, FirstOfFull, EvictsFirst, EvictsLeastRecentlyUsed}
 use Rattle.provider.specs.Demands.Validity.{Valid}
 use Rattle.provider.specs.Rules.Device.{Effect, clockStep}
 use Rattle.provider.specs.Rules.Event.{LinkUp, LinkDown, KeyBasedWrite, OnSession, Event, Overflow, PowerOn, OnDevice, OnLink, step, next, answerOf, after}
@@ -95,15 +95,15 @@ module _ (d : Device) (e : Event) (v : Valid d) where
           (keys-kept d e (both-fail (restarts e) (mayUse e) (isTaken (answerOf d e)) n p)) h)
 
   -- a key that is gone stood first
-  gone-first : (a : AccountKey) → Evicts d e a → FirstOfFive (held (d .keys)) a
+  gone-first : (a : AccountKey) → Evicts d e a → FirstOfFull (held (d .keys)) a
   gone-first a x = go (mayUse e and isTaken (answerOf d e)) refl
     where
-      go : (y : Bool) → (mayUse e and isTaken (answerOf d e)) ≡ y → FirstOfFive (held (d .keys)) a
+      go : (y : Bool) → (mayUse e and isTaken (answerOf d e)) ≡ y → FirstOfFull (held (d .keys)) a
       go true p =
           let l = after-use (and-left (mayUse e) (isTaken (answerOf d e)) p) (and-right (mayUse e) (isTaken (answerOf d e)) p) in
           let r = only-first-removed (held (d .keys)) (keyOf d e) a (v .keys .known) (x .was-held) (rw l at (x .is-gone)) in
           record {
-            five = omega (arith, r .full, v .keys .canonical .few, count-held (d .keys) (v .keys .canonical));
+            full = omega (arith, r .full, v .keys .canonical .few, count-held (d .keys) (v .keys .canonical));
             first = r .first;
           }
       go false p =

@@ -9,7 +9,7 @@ use mathlib.Core.Path.{_≡_}
 use Prim.Native.Nat.{ℕ, _-_}
 use lib.ListN.{length, getD}
 use Rattle.laws.specs.Choice.{_and_, _or_}
-use Rattle.account_keys.specs.Keys.{zeroKey, held, kept, member, used}
+use Rattle.account_keys.specs.Keys.{limit, zeroKey, held, kept, member, used}
 use Rattle.account_keys.specs.Promises.{standsBefore}
 use Rattle.account_keys.specs.declared.AccountKey.{AccountKey}
 use Rattle.advertising.specs.declared.Prompt.{Prompt}
@@ -120,14 +120,14 @@ pub record Evicts (d : Device) (e : Event) (a : AccountKey) : Type 0 where
   pub was-held : member (held (d .keys)) a ≡ true
   pub is-gone : member (held (next d e .keys)) a ≡ false
 
--- key a stands before all others in a list of five
-pub record FirstOfFive (l : List AccountKey) (a : AccountKey) : Type 0 where
-  pub five : length l ≡ 5
+-- key a stands before all others in a full list
+pub record FirstOfFull (l : List AccountKey) (a : AccountKey) : Type 0 where
+  pub full : length l ≡ limit
   pub first : (b : AccountKey) → member l b ≡ true → same (a .bytes) (b .bytes) ≡ false → standsBefore l a b ≡ true
 
 -- only such a key is evicted
 abbrev pub EvictsFirst : Type 0
-EvictsFirst = (d : Device) (e : Event) (a : AccountKey) → Valid d → Evicts d e a → FirstOfFive (held (d .keys)) a
+EvictsFirst = (d : Device) (e : Event) (a : AccountKey) → Valid d → Evicts d e a → FirstOfFull (held (d .keys)) a
 
 -- and so the "least recently used": every other owner was used after it
 abbrev pub EvictsLeastRecentlyUsed : Type 0

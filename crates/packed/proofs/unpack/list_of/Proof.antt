@@ -16,12 +16,12 @@ returns c =
 
 array-share-prefix-bytes : tie.Need-array-share-prefix-bytes
 array-share-prefix-bytes c =
-    let h : length (c .before .before .args .stored .bytes) ≡ 84 = search needs in omega (arith, h)
+    let h : length (c .before .before .args .stored .bytes) ≡ storedListMax = search needs in omega (arith, h)
 
 slice-aggregate-read : tie.Need-slice-aggregate-read
 slice-aggregate-read c =
     let a = c .before .before .before .args in
-    let h : length (a .stored .bytes) ≡ 84 = search needs in sym (length-take-le (a .stored .length) (a .stored
+    let h : length (a .stored .bytes) ≡ storedListMax = search needs in sym (length-take-le (a .stored .length) (a .stored
     .bytes) (omega (arith, h)))
 
 returns-2 : tie.Need-returns-2
