@@ -1,11 +1,14 @@
 -- Document 01, "Samples from the bench": all that are marked P, in one table, with those of document 02 (vi).
 -- Assumes nothing.
 use mathlib.Core.Bool.{true, false}
-use mathlib.Core.List.{List, [], _∷_, map}
+use mathlib.Core.List.{List, [], _∷_, _++_, map}
 use mathlib.Core.Path.{_≡_}
 use Prim.Native.Nat.{ℕ}
+use lib.ListN.{replicate}
 use Rattle.laws.specs.BigEndian.{bytes}
-use Rattle.account_keys.specs.StoredList.{writing, reading}
+use Rattle.laws.specs.Tabulate.{tabulate}
+use Rattle.account_keys.specs.StoredList.{writingUnder, writing, reading}
+use Rattle.account_keys.specs.declared.AccountKey.{AccountKey}
 use Rattle.account_keys.specs.declared.ListForm.{ListForm}
 use Rattle.account_keys.specs.declared.ListForm.the-variants.{WellFormed, Malformed}
 use Rattle.advertising.specs.declared.Prompt.the-variants.{Show}
@@ -25,6 +28,10 @@ countOf Malformed n = []
 
 abbrev pub countRead : List ℕ → List ℕ
 countRead b = countOf (reading b .form) (reading b .keys .count)
+
+-- n account keys, which differ in their last byte
+abbrev pub keys : ℕ → List AccountKey
+keys n = tabulate n (λ i. record { bytes = 0x04 ∷ replicate 14 0 ++ (i ∷ []) })
 
 abbrev pub model : List ℕ
 model = 0x12 ∷ 0x34 ∷ 0x56 ∷ []
@@ -54,6 +61,11 @@ samples =
     -- "and 00 02 01 00 is still read": both are
     ∷ (countRead (0x00 ∷ 0x02 ∷ 0x01 ∷ 0x00 ∷ []), 0 ∷ [])
     ∷ (countRead (0x00 ∷ 0x02 ∷ 0x02 ∷ 0x00 ∷ []), 0 ∷ [])
+    -- "version 0x02, with count up to 10", and "0x01 is still read, with at most 5": from both sides
+    ∷ (countRead (writingUnder 0x02 (keys 10)), 10 ∷ [])
+    ∷ (countRead (writingUnder 0x02 (keys 11)), [])
+    ∷ (countRead (writingUnder 0x01 (keys 5)), 5 ∷ [])
+    ∷ (countRead (writingUnder 0x01 (keys 6)), [])
     -- "passkey 123456 is 01 E2 40"
     ∷ (bytes 3 123456, 0x01 ∷ 0xE2 ∷ 0x40 ∷ [])
     -- and read back from a block of type 0x02
