@@ -294,8 +294,17 @@ static fp_device locked(unsigned keys)
 	return d;
 }
 
+/* The radio has not rotated yet. */
+static fp_device awaiting_rotation(unsigned keys)
+{
+	fp_device d = powered(keys);
+	make_request(0, 1);
+	return must(key_based_on(&d, LINK, BEFORE), FP_TAKEN);
+}
+
 /* Every place in use: ten keys, sixteen salts, the longest name, a key on every link, and all keys and salts as alike as
- * can be. The requests are under the last key, so that the keys keep their places. */
+ * can be. The requests are under the last key, so that the keys keep their places, and each is followed by the rotation
+ * that it asks for, to the same address and salt. */
 static fp_device full(unsigned keys)
 {
 	alike = true;
@@ -303,6 +312,7 @@ static fp_device full(unsigned keys)
 	for (uint8_t i = 1; i <= FP_MAX_SALTS; i++) {
 		make_request(keys - 1, i);
 		d = must(key_based_on(&d, i % FP_LINKS, BEFORE), FP_TAKEN);
+		d = must(fp_address_rotated(d, START.ble, START.salt, BEFORE), FP_TAKEN);
 	}
 	return d;
 }
@@ -358,6 +368,7 @@ static const struct row rows[] = {
 	{ "key-based write of 16, the tenth fits, all places in use", full, 10, key_based, 0, 10, 164, 9, 0 },
 	{ "key-based write of 80, 0 keys, fits", open_to_pair, 0, key_based, 0, 1, 4, SHARED, 0 },
 	{ "key-based write locked out (5), 1 key", locked, 1, key_based, 5, 0, 20, 0, 0 },
+	{ "key-based write before the rotation (16), 1 key", awaiting_rotation, 1, key_based, 16, 0, 20, 0, 0 },
 	{ "pairing started", asked, 0, started, 0, 0, 4, 0, 0 },
 	{ "confirmation needed", pairing, 0, needed, 0, 0, 4, 0, 0 },
 	{ "passkey write, equal", confirming, 0, passkey, 0, 0, 4, 0, 0 },

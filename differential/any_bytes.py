@@ -1,11 +1,19 @@
-"""Any bytes as a device: some get 255, and those in places that are not in use, and a list's version, don't count."""
+"""Any bytes as a device: some get 255, some are the same device, and others are served as they stand."""
 
 from collections import Counter
 from random import Random
 
 from reference.generator.every_kind import one_of_each
 from reference.rules.advertising import filter_size
-from reference.rules.events import AddressRotated, FactoryReset, Overflow, PowerOn, plain_reply
+from reference.rules.events import (
+    AddressRotated,
+    FactoryReset,
+    KeyBasedWrite,
+    Overflow,
+    PairingMode,
+    PowerOn,
+    plain_reply,
+)
 
 from . import corrupted_device
 from .compare import Difference
@@ -13,7 +21,9 @@ from .guarded_memory import InterfaceViolation
 from .struct_values import differing, keys, values
 
 NOT_A_DEVICE = 255
-LAST_ANSWER = 15
+LAST_ANSWER = AWAITED = 16
+# Of a key-based write: what comes before 16 in the order of checks.
+BEFORE_AWAITED = (1, 2, 13, 4)
 
 
 class AnyBytes:
@@ -33,12 +43,13 @@ class AnyBytes:
                 or self.ignored(device, kinds)
                 or self.answered(device, kinds)
                 or self.served(device, kinds)
+                or self.waits(device, kinds)
             )
         except InterfaceViolation as violation:
             return Difference("any bytes: memory or reply", "", str(violation))
 
     def never_tried(self):
-        ways = (*corrupted_device.NO_DEVICE, *corrupted_device.SAME_DEVICE)
+        ways = (*corrupted_device.NO_DEVICE, *corrupted_device.SAME_DEVICE, corrupted_device.made_to_wait)
         return [way.__name__ for way in ways if not self.tried[way.__name__]]
 
     def refused(self, device, kinds):
@@ -95,6 +106,29 @@ class AnyBytes:
             if (values(expected), reply) != found:
                 return differs(corrupted_device.other_filter, event, other, (values(expected), reply), found)
         return self.shown(other)
+
+    def waits(self, device, kinds):
+        """A device with the wait set by hand: its requests get 16, and every other event does what it did without."""
+        other, way = corrupted_device.copy(device), corrupted_device.made_to_wait
+        if not way(self.random, other):
+            return None
+        self.tried[way.__name__] += 1
+        for event in kinds:
+            expected, found = self.with_wait(device, event), self.step(other, event)
+            if expected != found:
+                return differs(way, event, other, expected, found)
+        return None
+
+    def with_wait(self, device, event):
+        """What the event would give if the device waited for a rotation."""
+        after, reply = self.library.step(device, event)
+        if isinstance(event, KeyBasedWrite) and reply.answer not in BEFORE_AWAITED:
+            # "clock step only": another event makes no more, if it leaves the mode as it is.
+            after, _ = self.library.step(device, PairingMode(bool(device.pairing), event.clock))
+            reply = plain_reply(event, AWAITED)
+        lifted = isinstance(event, (PowerOn, AddressRotated, FactoryReset)) and reply.answer == 0
+        after.rotation_awaited = 0 if lifted else 1
+        return values(after), reply
 
     def shown(self, device):
         """The payload copies the filter as it stands."""

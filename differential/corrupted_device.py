@@ -42,6 +42,18 @@ def unknown_pairing(random, device):
     device.pairing = random.choice((2, 3, 128, 255))
 
 
+def unknown_wait(random, device):
+    """Whether a rotation is awaited is 0 or 1; with no failure, so that this alone makes it no device."""
+    device.rotation_awaited = random.choice((2, 3, 128, 255))
+    device.failures = 0
+
+
+def wait_with_failures(random, device):
+    """The request that began the wait set the count to 0, and since then no failure was counted."""
+    device.rotation_awaited = 1
+    device.failures = random.randrange(1, 11)
+
+
 def long_list(random, device):
     device.stored.length = random.choice((165, 166, 255, 260, 2**32 + 4, 2**64 - 1))
 
@@ -93,6 +105,8 @@ NO_DEVICE = (
     unknown_salt_length,
     unknown_stage,
     unknown_pairing,
+    unknown_wait,
+    wait_with_failures,
     long_list,
     other_length,
     malformed_list,
@@ -175,6 +189,14 @@ def other_filter(random, device):
     device.filter[random.randrange(len(device.filter))] ^= random.randrange(1, 256)
 
 
+def made_to_wait(random, device):
+    """A wait that no request began, if there is none and nothing is counted; whether it is so."""
+    if device.rotation_awaited or device.failures:
+        return False
+    device.rotation_awaited = 1
+    return True
+
+
 # ---- numbers that the header bounds nowhere
 
 
@@ -191,4 +213,5 @@ def any_numbers(random, device):
         salt.length = random.choice((2, 8))
     device.spent.count = random.randrange(MOST_SALTS + 1)
     device.failures = random.randrange(11)
+    device.rotation_awaited = 0 if device.failures else random.randrange(2)
     set_name(device, random_names.some_name(random))

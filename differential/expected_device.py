@@ -31,7 +31,7 @@ def expected_values(device):
     found += stored(stored_list(device))
     found += name(device.name)
     found += (device.public, device.model, device.ble, device.salt, built_filter(device))
-    found += (int(device.pairing_mode), device.failures, bytes(6))
+    found += (int(device.pairing_mode), device.failures, int(device.rotation_awaited), bytes(5))
     return tuple(found)
 
 
@@ -68,5 +68,5 @@ def off():
     """ "all zeros and an empty list" """
     guard = *salts(()), 0
     identity = bytes(6), bytes(3)
-    rest = bytes(6), bytes(2), bytes(FILTER_MAX), 0, 0, bytes(6)
+    rest = bytes(6), bytes(2), bytes(FILTER_MAX), 0, 0, 0, bytes(5)
     return (0, *IDLE * LINKS, *guard, *stored(pack(())), *name(b""), *identity, *rest)

@@ -13,13 +13,16 @@ from .structs import BY_NAME
 ANSWERS = (
     "TAKEN UNKNOWN_LINK WRONG_LENGTH PASSKEY_TOO_LARGE CLOCK_WENT_BACK LOCKED_OUT NOT_IN_PAIRING_MODE NO_KEY_FITS"
     " SALT_SPENT LINK_IDLE WRONG_STAGE CAPABILITY_REFUSED BAD_BLOCK OUTPUT_TOO_SHORT LIST_MALFORMED NAME_REFUSED"
+    " ROTATION_AWAITED"
 ).split()
 STAGES = "IDLE ASKED PAIRING CONFIRMING PROVED PAIRED".split()
 CONFIRM = "UNASKED YES NO".split()
+NAMED = "NEITHER BLE PUBLIC".split()
 NUMBERS = {
     **{f"FP_{name}": number for number, name in enumerate(ANSWERS)},
     **{f"FP_STAGE_{name}": number for number, name in enumerate(STAGES)},
     **{f"FP_CONFIRM_{name}": number for number, name in enumerate(CONFIRM)},
+    **{f"FP_NAMED_{name}": number for number, name in enumerate(NAMED)},
     "FP_LINKS": 8,
     "FP_MAX_KEYS": 10,
     "FP_MAX_SALTS": 16,

@@ -4,7 +4,7 @@ import fcntl
 from ctypes import c_uint8
 
 from reference.rules import events
-from reference.rules.events import Reply
+from reference.rules.events import Named, Reply
 from reference.rules.recording import LENT
 
 from .bindings import bind, writer
@@ -14,6 +14,7 @@ from .paths import FOLDER
 from .structs import FpAddress, FpElement, FpIdentity, FpStart
 
 CONFIRM = {0: None, 1: True, 2: False}
+NAMED = {0: None, 1: Named.BLE, 2: Named.PUBLIC}
 NO_ADDRESS = bytes(6)
 # For events whose record is too long, and lengths that do not fit into two bytes.
 LONG = 70_000
@@ -98,8 +99,11 @@ def reply_of(reply, out=b"", packet=b""):
     wanted = reply.bond.wanted
     if wanted > 1 or reply.confirm > 2 or (not wanted and bond != NO_ADDRESS):
         raise InterfaceViolation(f"wanted {wanted}, bond {bond.hex()}, confirm {reply.confirm}")
+    # "a request that named the BLE address asks the radio to rotate", and nothing else does
+    if reply.named > 2 or reply.rotate != (reply.named == 1):
+        raise InterfaceViolation(f"named {reply.named}, rotate {reply.rotate}")
     handed_out = reply.tried, bond if wanted else None, CONFIRM[reply.confirm]
-    return Reply(reply.answer, *handed_out, out, reply.packet_length, packet)
+    return Reply(reply.answer, *handed_out, out, reply.packet_length, packet, NAMED[reply.named])
 
 
 def array(data):

@@ -14,12 +14,18 @@ from reference.rules.stored_list import read_stored_list
 from .guarded_memory import InterfaceViolation
 from .structs import STORED_LIST_MAX
 
-IDLE = 9
+IDLE, AWAITED = 9, 16
 # Every number that a link can have in C, those above 7 too.
 EVERY_LINK = frozenset(range(256))
 NEED_A_KEY = (PasskeyWrite, AccountKeyWrite, NameWrite)
 # What an account key write or a name write writes.
 NEW_KEY, HELD_KEY, NAME = WRITTEN = ("a new key", "a held key", "a name")
+# Under what the wait for a rotation is counted, which an added marker must not lift.
+MARKED, COMPARED, REFUSED = DURING_WAIT = (
+    "markers added during a wait for a rotation",
+    "events compared during a wait for a rotation",
+    "16 in both runs",
+)
 
 
 def taken_write(event, reply, stored):
@@ -123,6 +129,7 @@ class RunPair:
     def marker(self):
         """An added marker goes to the second run, and is compared with nothing."""
         self.counts["markers added"] += 1
+        self.counts[MARKED] += self.second.device.rotation_awaited
         reply, stored = self.second.send(Overflow())
         return self.second.forbidden_after_marker(Overflow(), reply, stored, self.counts)
 
@@ -140,6 +147,8 @@ class RunPair:
         if self.parted:
             return None
         self.counts["events compared"] += 1
+        self.counts[COMPARED] += self.second.device.rotation_awaited
+        self.counts[REFUSED] += first.answer == second.answer == AWAITED
         if self.both_took:
             self.counts[compared_after(self.both_took)] += 1
         if not self.alike(event, first, second):
@@ -166,6 +175,9 @@ class RunPair:
             return f"two runs: stored lists differ after {event}"
         if self.first.name != self.second.name:
             return f"two runs: names differ after {event}"
+        # "In demand 3 this wait is alike in both runs."
+        if self.first.device.rotation_awaited != self.second.device.rotation_awaited:
+            return f"two runs: waits for a rotation differ after {event}"
         return None
 
     def alike(self, event, first, second):

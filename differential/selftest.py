@@ -4,7 +4,16 @@ from unittest import mock
 
 from reference.rules.device import MOST_KEYS
 
-from . import filter_mistakes, list_mistakes, marked_lists, record_mistakes, result_mistakes, run_pair, use_mistakes
+from . import (
+    filter_mistakes,
+    list_mistakes,
+    marked_lists,
+    record_mistakes,
+    result_mistakes,
+    run_pair,
+    use_mistakes,
+    wait_mistakes,
+)
 from .any_bytes import AnyBytes
 from .compare import first_difference
 from .records import Records
@@ -16,10 +25,12 @@ from .two_runs import unseen
 
 EVENTS = 6_000
 LIST = 300
-# A stored key takes six events after power-on and pairing mode; some mistakes show only with the third.
-SHORT = 25
-# A list that is filled by events takes six for each key.
-FILLED = 6 * MOST_KEYS
+# As many as the two runs have by themselves: an account key write that gets 9 beside 10 or 12 is rare in them.
+IN_TWO_RUNS = 40_000
+# A stored key takes six events after power-on and pairing mode, seven with a rotation; some mistakes need the fourth.
+SHORT = 30
+# A list that is filled by events takes as many for each key.
+FILLED = 7 * MOST_KEYS
 
 # The function, the mistake in its results, and how the difference is called.
 MISTAKES = (
@@ -91,6 +102,41 @@ MISTAKES = (
     ("fp_power_on", list_mistakes.full_list_refused, "reply: answer"),
     ("fp_power_on", list_mistakes.older_stays_older, "state"),
     ("fp_stored_list", list_mistakes.short_list_written_as_older, "stored list"),
+    ("fp_key_based_write", wait_mistakes.named_lost, "reply: named"),
+    ("fp_key_based_write", wait_mistakes.named_exchanged, "reply: named"),
+    ("fp_key_based_write", wait_mistakes.named_public_if_equal, "reply: named"),
+    ("fp_key_based_write", wait_mistakes.named_with_8, "reply: named"),
+    ("fp_key_based_write", wait_mistakes.named_with_16, "reply: named"),
+    ("fp_key_based_write", wait_mistakes.unknown_address, "memory or reply"),
+    ("fp_key_based_write", wait_mistakes.rotation_not_asked, "memory or reply"),
+    ("fp_key_based_write", wait_mistakes.rotation_asked_for_public, "memory or reply"),
+    ("fp_key_based_write", wait_mistakes.rotation_asked_with_2, "memory or reply"),
+    ("fp_key_based_write", wait_mistakes.wait_not_begun, "state"),
+    ("fp_key_based_write", wait_mistakes.wait_begun_by_public, "state"),
+    ("fp_key_based_write", wait_mistakes.wait_begun_by_8, "state"),
+    ("fp_key_based_write", wait_mistakes.awaited_as(6), "reply: answer"),
+    ("fp_key_based_write", wait_mistakes.awaited_as(5), "reply: answer"),
+    ("fp_key_based_write", wait_mistakes.six_before_awaited, "reply: answer"),
+    ("fp_key_based_write", wait_mistakes.tried_with_16, "reply: tried"),
+    ("fp_key_based_write", wait_mistakes.written_with_16, "reply: out"),
+    ("fp_key_based_write", wait_mistakes.counted_with_16, "state"),
+    ("fp_key_based_write", wait_mistakes.no_clock_with_16, "state"),
+    ("fp_key_based_write", wait_mistakes.key_dropped_with_16, "state"),
+    ("fp_key_based_write", wait_mistakes.lifted_with_16, "state"),
+    ("fp_overflow", wait_mistakes.lifted, "state"),
+    ("fp_overflow", wait_mistakes.begun, "state"),
+    ("fp_link_up", wait_mistakes.lifted, "state"),
+    ("fp_link_down", wait_mistakes.lifted, "state"),
+    ("fp_pairing_mode", wait_mistakes.lifted, "state"),
+    ("fp_pairing_ended", wait_mistakes.lifted, "state"),
+    ("fp_account_key_write", wait_mistakes.lifted, "state"),
+    ("fp_address_rotated", wait_mistakes.lifted_if_refused, "state"),
+    ("fp_power_on", wait_mistakes.lifted_if_refused, "state"),
+    ("fp_factory_reset", wait_mistakes.lifted_if_refused, "state"),
+    ("fp_address_rotated", wait_mistakes.not_lifted, "state"),
+    ("fp_address_rotated", wait_mistakes.not_lifted_by_the_same_address, "state"),
+    ("fp_power_on", wait_mistakes.not_lifted, "state"),
+    ("fp_factory_reset", wait_mistakes.not_lifted, "state"),
     ("fp_advertisement", result_mistakes.filter_bit, "payload"),
     ("fp_advertisement", result_mistakes.prompt_shown, "payload"),
 )
@@ -112,6 +158,8 @@ WITH_ANY_BYTES = (
     ("fp_link_up", filter_mistakes.mended, "any bytes"),
     ("fp_link_up", list_mistakes.older_device_refused, "any bytes"),
     ("fp_link_up", list_mistakes.older_device_kept, "any bytes"),
+    ("fp_link_up", wait_mistakes.unknown_wait_taken, "any bytes"),
+    ("fp_link_up", wait_mistakes.wait_with_failures_taken, "any bytes"),
 )
 # These show in the record of one event, and there is no list either.
 WITH_RECORDS = (
@@ -155,6 +203,8 @@ WITH_TWO_RUNS = (
     ("fp_account_key_write", use_mistakes.held_key_placed_by_links, "two runs: stored lists"),
     ("fp_account_key_write", use_mistakes.used_with_9, "two runs: stored lists"),
     ("fp_overflow", use_mistakes.first_key_used, "two runs"),
+    ("fp_overflow", wait_mistakes.lifted, "two runs"),
+    ("fp_overflow", wait_mistakes.begun, "two runs"),
 )
 # Two runs that part at a wrong place, and what they then show on the right library.
 WRONG_PARTINGS = (
@@ -199,7 +249,7 @@ def in_runs(wrong, called, any_bytes=None, records=None):
 
 def in_two_runs(library, name, mistake, called):
     wrong = with_mistakes(library, {name: mistake})
-    _, failure = marked_lists.run_pairs(wrong, 1, EVENTS)
+    _, failure = marked_lists.run_pairs(wrong, 1, IN_TWO_RUNS)
     if failure is None or not failure.what.startswith(called):
         return None
     entries = marked_lists.shortest(wrong, failure)

@@ -61,7 +61,8 @@ class FpDevice(Structure):
         ("filter", c_uint8 * FILTER_MAX),
         ("pairing", c_uint8),
         ("failures", c_uint8),
-        ("reserved", c_uint8 * 6),
+        ("rotation_awaited", c_uint8),
+        ("reserved", c_uint8 * 5),
     ]
 
 
@@ -80,12 +81,15 @@ class FpReply(Structure):
         ("tried", c_uint8),
         ("confirm", c_uint8),
         ("packet_length", c_uint8),
+        ("named", c_uint8),
+        # A number for the same reason.
+        ("rotate", c_uint8),
         ("bond", FpBond),
     ]
 
 
 class FpOutcome(Structure):
-    _fields_ = [("next", FpDevice), ("reply", FpReply), ("reserved", c_uint8 * 5)]
+    _fields_ = [("next", FpDevice), ("reply", FpReply), ("reserved", c_uint8 * 3)]
 
 
 class FpReport(Structure):

@@ -4,7 +4,7 @@ from random import Random
 
 from reference.generator.random_values import account_key, different_keys, lent_output, lent_packet
 from reference.rules.aes import decrypt, encrypt
-from reference.rules.events import KeyBasedWrite, PowerOn
+from reference.rules.events import AddressRotated, KeyBasedWrite, PowerOn
 from reference.rules.key_based import REQUEST
 from reference.rules.stored_list import pack
 
@@ -48,7 +48,9 @@ def listed(random):
     # In between, each of the two is put behind the other, so that the block fits the other first.
     last_one, last_other = (plain_request(random, key, address) for key, address in (one, other))
     blocks = (block, last_other, block, last_one, block, block)
-    return [start, *(write(random, data, clock) for clock, data in enumerate(blocks))]
+    writes = [write(random, data, clock) for clock, data in enumerate(blocks)]
+    # A rotation to the same address lifts the wait behind a request that named it.
+    return [start, *(event for one in writes for event in (one, AddressRotated(ble, random.randbytes(2), one.clock)))]
 
 
 def difference(library, seed):

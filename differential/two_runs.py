@@ -9,7 +9,7 @@ from reference.rules.events import KINDS_ON_A_LINK
 from .library import load
 from .marked_lists import breach, run_pairs, shortest
 from .report import archive
-from .run_pair import WRITTEN, after_marker, compared_after, parting_by
+from .run_pair import DURING_WAIT, WRITTEN, after_marker, compared_after, parting_by
 from .setup_error import exit_in_words
 
 # What has to be seen, or the test could not have failed.
@@ -17,6 +17,7 @@ NEEDED = (
     *map(parting_by, WRITTEN),
     *map(compared_after, WRITTEN),
     "only the second got 9",
+    *DURING_WAIT,
     *map(after_marker, KINDS_ON_A_LINK),
 )
 

@@ -278,6 +278,7 @@ static void whole_pairing(void)
     put_request();
     put_rest();
     check(request_gets_0() && memcmp(out, RESPONSE, sizeof out) == 0, "the request gets 0, and the response expected");
+    check(reply.named == FP_NAMED_PUBLIC && !reply.rotate, "it named the public address, and asks for no rotation");
     check(reply.packet_length == sizeof NAME_PACKET && memcmp(packet, NAME_PACKET, sizeof NAME_PACKET) == 0,
           "the name is sent, in the packet expected");
     check(gets(EVENT_NAME_WRITE, FP_TAKEN) && named_by_the_phone(), "the phone's name is taken");

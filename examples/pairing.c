@@ -3,9 +3,9 @@
  *     pairing LIST NAME RECORDING ANSWERS
  *
  * It powers on from the list and the name in these two files (first boot if there are none), tells a phone its name, gets
- * a new one, is paired by that phone, stores its account key, is switched off and on again, serves the owner, meets a
- * loss of events and prints its advertisement. Every answer is printed with what it means. Exit 1 if one is not the answer
- * expected, 2 if the program was called wrongly.
+ * a new one, is paired by that phone, stores its account key, is switched off and on again, serves the owner, rotates its
+ * address as the owner's request asks, meets a loss of events and prints its advertisement. Every answer is printed with
+ * what it means. Exit 1 if one is not the answer expected, 2 if the program was called wrongly.
  *
  * All events are recorded, and RECORDING is written at the end. ANSWERS gets the lines that fp_replay has to print of it. A
  * product does not record.
@@ -36,46 +36,31 @@ static void stop(const char *what, const char *why)
     exit(1);
 }
 
+static const char *const MEANINGS[] = {
+    [FP_TAKEN] = "taken",
+    [FP_UNKNOWN_LINK] = "no such link: the table of connections is wrong",
+    [FP_WRONG_LENGTH] = "a request has 16 or 80 bytes, and a name write 16 to 80: ignored",
+    [FP_PASSKEY_TOO_LARGE] = "our passkey has more than six digits: the radio is wrong",
+    [FP_CLOCK_WENT_BACK] = "the clock went back: every phone begins again",
+    [FP_LOCKED_OUT] = "ten requests did not fit: no request is tried for five minutes",
+    [FP_NOT_IN_PAIRING_MODE] = "a new phone, and pairing mode is off: ignored",
+    [FP_NO_KEY_FITS] = "no key fits the request: ignored",
+    [FP_SALT_SPENT] = "the request was sent before: ignored",
+    [FP_LINK_IDLE] = "the link has no key: the phone begins with a new request",
+    [FP_WRONG_STAGE] = "not the step expected: the phone begins with a new request",
+    [FP_CAPABILITY_REFUSED] = "the phone can't confirm a passkey: pairing is refused",
+    [FP_BAD_BLOCK] = "the block is not what it has to be: the phone begins with a new request",
+    [FP_OUTPUT_TOO_SHORT] = "our output is too short: a mistake in this program",
+    [FP_LIST_MALFORMED] = "the stored list or the name is damaged",
+    [FP_NAME_REFUSED] = "a wrong tag, or not UTF-8: the old name stays",
+    [FP_ROTATION_AWAITED] = "the radio has to rotate the BLE address first: ignored",
+};
+
 static const char *meaning(uint8_t answer)
 {
-    switch (answer) {
-    case FP_TAKEN:
-        return "taken";
-    case FP_UNKNOWN_LINK:
-        return "no such link: the table of connections is wrong";
-    case FP_WRONG_LENGTH:
-        return "a request has 16 or 80 bytes, and a name write 16 to 80: ignored";
-    case FP_PASSKEY_TOO_LARGE:
-        return "our passkey has more than six digits: the radio is wrong";
-    case FP_CLOCK_WENT_BACK:
-        return "the clock went back: every phone begins again";
-    case FP_LOCKED_OUT:
-        return "ten requests did not fit: no request is tried for five minutes";
-    case FP_NOT_IN_PAIRING_MODE:
-        return "a new phone, and pairing mode is off: ignored";
-    case FP_NO_KEY_FITS:
-        return "no key fits the request: ignored";
-    case FP_SALT_SPENT:
-        return "the request was sent before: ignored";
-    case FP_LINK_IDLE:
-        return "the link has no key: the phone begins with a new request";
-    case FP_WRONG_STAGE:
-        return "not the step expected: the phone begins with a new request";
-    case FP_CAPABILITY_REFUSED:
-        return "the phone can't confirm a passkey: pairing is refused";
-    case FP_BAD_BLOCK:
-        return "the block is not what it has to be: the phone begins with a new request";
-    case FP_OUTPUT_TOO_SHORT:
-        return "our output is too short: a mistake in this program";
-    case FP_LIST_MALFORMED:
-        return "the stored list or the name is damaged";
-    case FP_NAME_REFUSED:
-        return "a wrong tag, or not UTF-8: the old name stays";
-    case FP_NOT_A_DEVICE:
+    if (answer == FP_NOT_A_DEVICE)
         return "our device is none: memory went wrong, power on again";
-    default:
-        return "an answer that the header does not know";
-    }
+    return answer < sizeof MEANINGS / sizeof *MEANINGS ? MEANINGS[answer] : "an answer that the header does not know";
 }
 
 static void tell(const char *what, uint8_t answer)
@@ -233,6 +218,23 @@ static void power_on(void)
     saved_name = device.name;
 }
 
+/* ---- the advertisement */
+
+/* The filter's bytes depend on the random salt; the others are known. */
+static void advertise(void)
+{
+    enum { BEFORE_FILTER = 6, AFTER_FILTER = 10 };
+    uint8_t out[FP_ADVERTISEMENT_MAX];
+    fp_report report = fp_advertisement(device, 0, out, sizeof out);
+    tell("advertisement", report.answer);
+    if (report.answer != FP_TAKEN || report.length != sizeof ADVERTISEMENT)
+        stop("advertisement", "13 bytes were expected");
+    print_bytes("  payload", out, report.length);
+    if (memcmp(out, ADVERTISEMENT, BEFORE_FILTER) != 0 || out[AFTER_FILTER] != ADVERTISEMENT[AFTER_FILTER] ||
+        memcmp(out + AFTER_FILTER + 1, device.salt, sizeof device.salt) != 0)
+        stop("advertisement", "other bytes were expected");
+}
+
 /* ---- events: each is recorded and then served, with the same arguments */
 
 static void overflow(void)
@@ -253,7 +255,21 @@ static void link_up(uint64_t clock)
     served("link-up", fp_link_up(device, LINK, clock), FP_TAKEN);
 }
 
-static void key_based_write(uint64_t clock, const uint8_t *request, size_t length, fp_element element)
+/* The radio gives itself a new address, and the advertisement has a new salt. Here the address is drawn: a resolvable
+ * private one, which begins with the bits 01. A product's radio makes it, and is then set to the new advertisement. */
+static void rotate_address(uint64_t clock)
+{
+    fp_address ble;
+    uint8_t salt[2];
+    draw(ble.bytes, sizeof ble.bytes);
+    draw(salt, sizeof salt);
+    ble.bytes[0] = (uint8_t)((ble.bytes[0] & 0x3F) | 0x40);
+    recorded(fp_record_address_rotated(ble, salt, clock, recorder_place(&recording), recorder_room(&recording)));
+    served("address-rotated", fp_address_rotated(device, ble, salt, clock), FP_TAKEN);
+    advertise();
+}
+
+static void key_based_write(uint64_t clock, const uint8_t *request, size_t length, fp_element element, uint8_t named)
 {
     uint8_t salt[9], nonce[8], out[FP_RESPONSE_SIZE], packet[FP_PACKET_MAX];
     draw(salt, sizeof salt);
@@ -270,6 +286,12 @@ static void key_based_write(uint64_t clock, const uint8_t *request, size_t lengt
     print_bytes("  packet with the name", packet, reply.packet_length);
     if (reply.packet_length != 16 + device.name.length)
         stop("key-based-write", "a packet with the whole name was expected");
+
+    /* After both notifications, and soon: until the rotation every request gets 16. */
+    if (reply.named != named)
+        stop("key-based-write", "the request named another address");
+    if (reply.rotate)
+        rotate_address(clock);
 }
 
 static void name_write(uint64_t clock, uint8_t expected)
@@ -330,7 +352,7 @@ static void paired_by_phone(void)
 {
     pairing_mode(1000, 1);
     link_up(1100);
-    key_based_write(1200, REQUEST, sizeof REQUEST, ELEMENT);
+    key_based_write(1200, REQUEST, sizeof REQUEST, ELEMENT, FP_NAMED_PUBLIC);
     name_write(1250, FP_TAKEN);
     pairing_started(1300, FP_TAKEN);
     confirmation_needed(1400);
@@ -343,25 +365,10 @@ static void paired_by_phone(void)
 static void events_lost(void)
 {
     link_up(1000);
-    key_based_write(1100, OWNER_REQUEST, sizeof OWNER_REQUEST, (fp_element){0});
+    key_based_write(1100, OWNER_REQUEST, sizeof OWNER_REQUEST, (fp_element){0}, FP_NAMED_BLE);
     overflow();
     name_write(1150, FP_LINK_IDLE);
     pairing_started(1200, FP_LINK_IDLE);
-}
-
-/* The filter's bytes depend on the random salt; the others are known. */
-static void advertise(void)
-{
-    enum { BEFORE_FILTER = 6, AFTER_FILTER = 10 };
-    uint8_t out[FP_ADVERTISEMENT_MAX];
-    fp_report report = fp_advertisement(device, 0, out, sizeof out);
-    tell("advertisement", report.answer);
-    if (report.answer != FP_TAKEN || report.length != sizeof ADVERTISEMENT)
-        stop("advertisement", "13 bytes were expected");
-    print_bytes("  payload", out, report.length);
-    if (memcmp(out, ADVERTISEMENT, BEFORE_FILTER) != 0 || out[AFTER_FILTER] != ADVERTISEMENT[AFTER_FILTER] ||
-        memcmp(out + AFTER_FILTER + 1, device.salt, sizeof device.salt) != 0)
-        stop("advertisement", "other bytes were expected");
 }
 
 int main(int argc, char **argv)

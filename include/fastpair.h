@@ -101,6 +101,30 @@
  * it: a device whose filter you changed advertises it so, and phones may not find their key, until one of these events.
  * Hand in the device that the last call gave back, and the filter is right.
  *
+ * Rotation: an accepted request named one of the device's two addresses, and reply.named says which; if both are equal, the
+ * BLE address. A phone that named the BLE address asks for another one: reply.rotate is true. Have the radio change its
+ * address, and tell the core by fp_address_rotated. Until then `next.rotation_awaited` is 1, and every key-based write gets
+ * FP_ROTATION_AWAITED (16): of 16 and of 80 bytes, on every link, whoever sends it. It is not tried, and no failure is
+ * counted. The pairing that the accepted request began goes on meanwhile, and so do those of other links.
+ *
+ * These calls end the wait if they get FP_TAKEN, and nothing else does:
+ *
+ *     fp_address_rotated    also with the address that the device has already
+ *     fp_power_on
+ *     fp_factory_reset
+ *
+ * Time does not end it, nor a link that goes up or down, pairing mode, an overflow marker, or one of these calls that was
+ * refused. If the radio never rotates, no request is accepted any more until power-on: no owner connects and nobody pairs.
+ * So rotate as soon as the response was notified. If rotation is put off, expect 16 to other phones until then.
+ *
+ * If the rotation is among events that your queue lost, the device waits on, and has the old address: the marker does not
+ * tell it. So after fp_overflow, if `next.rotation_awaited` is 1, call fp_address_rotated with the address that the radio
+ * has, and a fresh salt.
+ *
+ * In pairing mode Fast Pair says not to rotate, but the core asks for it there too. A request of 80 bytes that named the
+ * BLE address and was accepted has to be followed by fp_address_rotated: if that phone, or another, tries again before, it
+ * gets 16. If your radio must keep its address in pairing mode, hand in the address that it has, with a fresh salt.
+ *
  * Secrets: an fp_device holds the session keys and the owners' account keys, and an fp_stored the account keys. Wipe every
  * old copy that you leave, with a function that the compiler does not remove (as explicit_bzero). The core does not wipe
  * the stack that its calls used.
@@ -134,9 +158,9 @@
 #include <stdint.h>
 
 /* The version of this interface; docs/CHANGES.md says what changed. */
-#define FP_VERSION "4.5.0"
+#define FP_VERSION "4.6.0"
 #define FP_VERSION_MAJOR 4
-#define FP_VERSION_MINOR 5
+#define FP_VERSION_MINOR 6
 #define FP_VERSION_PATCH 0
 
 #ifdef __cplusplus
@@ -171,6 +195,8 @@ enum {
                                    UTF-8); the device handed in comes back: see fp_power_on */
     FP_NAME_REFUSED = 15,       /* name write with a wrong tag, or with a name that is not UTF-8; the old name stays, and so
                                    do the link's key, stage and timer */
+    FP_ROTATION_AWAITED = 16,   /* key-based write while the device waits for the radio to rotate the BLE address; no failure
+                                   is counted: see "Rotation" above */
     FP_NOT_A_DEVICE = 255       /* the fp_device handed in is none; it comes back as it was, nothing is written */
 };
 
@@ -186,6 +212,9 @@ enum {
 
 /* what the radio is to do with the passkey: it confirms with FP_CONFIRM_YES, and with nothing else */
 enum { FP_CONFIRM_UNASKED = 0, FP_CONFIRM_YES = 1, FP_CONFIRM_NO = 2 };
+
+/* the address that an accepted request named: if both addresses are equal, the BLE address */
+enum { FP_NAMED_NEITHER = 0, FP_NAMED_BLE = 1, FP_NAMED_PUBLIC = 2 };
 
 enum { FP_LINKS = 8, FP_MAX_KEYS = 10, FP_MAX_SALTS = 16, FP_RESPONSE_SIZE = 16 };
 
@@ -257,7 +286,8 @@ typedef struct {
  *
  * FP_NOT_A_DEVICE is the answer to a `stored` that is no stored list, a `name` that is none (a length above 64, or not
  * UTF-8), more than 16 salts, a remembered salt of other than 2 or 8 bytes, more than 10 failures, a stage above
- * FP_STAGE_PAIRED and a `pairing` above 1. Any other bytes are served by the rules as they stand, those of `filter` too: it
+ * FP_STAGE_PAIRED, a `pairing` or `rotation_awaited` above 1, and a `rotation_awaited` of 1 while `failures` is not 0: the
+ * request that began the wait set them to 0, and none is counted during it. Any other bytes are served by the rules as they stand, those of `filter` too: it
  * is not compared with the keys and the salt (see "Filter" above). Not looked at, and zero in the device that comes back:
  * the fields of an idle link, salts past `count`, bytes of a salt, of the list and of the name past their lengths,
  * `failed_at` while `failures` is 0, and what is reserved. With FP_NOT_A_DEVICE every byte comes back as it was. */
@@ -275,7 +305,8 @@ typedef struct {
                                       in pairing mode; the others are zero, and so are all without a key */
     uint8_t pairing;     /* 1 in pairing mode */
     uint8_t failures;    /* requests in a row that no key fitted */
-    uint8_t reserved[6];
+    uint8_t rotation_awaited; /* 1 from an accepted request that named the BLE address to the rotation: requests get 16 */
+    uint8_t reserved[5];
 } fp_device;
 
 /* What power-on is given besides the stored list and the name. */
@@ -294,19 +325,23 @@ typedef struct {
 /* All that an answer hands out. `tried` is the number of account keys (or the one shared key) that were tried. If an
  * account key fits, it is that key's place, counted from 1, in the list of the device that was handed in: before the key
  * moved to the end. An owner's place changes with use, so it is no number for an owner.
- * `packet_length` is 16 to 80 if a key-based write left a packet with the name of that length, and 0 if there is none. */
+ * `packet_length` is 16 to 80 if a key-based write left a packet with the name of that length, and 0 if there is none.
+ * `named` is FP_NAMED_BLE or FP_NAMED_PUBLIC for an accepted request, and FP_NAMED_NEITHER for every other answer. `rotate`
+ * is true for FP_NAMED_BLE alone: the radio is to rotate the BLE address (see "Rotation" above). */
 typedef struct {
     uint8_t answer;
     uint8_t tried;
     uint8_t confirm;
     uint8_t packet_length;
+    uint8_t named;
+    bool rotate;
     fp_bond bond;
 } fp_reply;
 
 typedef struct {
     fp_device next;
     fp_reply reply;
-    uint8_t reserved[5];
+    uint8_t reserved[3];
 } fp_outcome;
 
 /* FP_TAKEN and the number of bytes written, or another answer and 0. */
@@ -338,8 +373,10 @@ FP_LAYOUT(sizeof(fp_stored) == 176 && offsetof(fp_stored, bytes) == 8);
 FP_LAYOUT(sizeof(fp_name) == 72 && offsetof(fp_name, bytes) == 8);
 FP_LAYOUT(sizeof(fp_device) == 712 && offsetof(fp_device, spent) == 264);
 FP_LAYOUT(offsetof(fp_device, name) == 600 && offsetof(fp_device, filter) == 689 && offsetof(fp_device, failures) == 705);
+FP_LAYOUT(offsetof(fp_device, rotation_awaited) == 706);
 FP_LAYOUT(sizeof(fp_start) == 17 && sizeof(fp_element) == 33 && sizeof(fp_bond) == 7);
-FP_LAYOUT(sizeof(fp_reply) == 11 && offsetof(fp_reply, packet_length) == 3 && offsetof(fp_reply, bond) == 4);
+FP_LAYOUT(sizeof(fp_reply) == 13 && offsetof(fp_reply, packet_length) == 3 && offsetof(fp_reply, named) == 4);
+FP_LAYOUT(offsetof(fp_reply, rotate) == 5 && offsetof(fp_reply, bond) == 6);
 FP_LAYOUT(sizeof(fp_outcome) == 728 && sizeof(fp_report) == 16);
 #undef FP_LAYOUT
 #endif
@@ -381,11 +418,12 @@ fp_outcome fp_overflow(fp_device device);
 fp_outcome fp_pairing_mode(fp_device device, uint8_t on, uint64_t clock);
 
 /* A new BLE address, and with it the new salt of the advertised filter: two random bytes, fresh at every rotation. With
- * FP_TAKEN the filter is built anew. */
+ * FP_TAKEN the filter is built anew, and requests are no longer answered 16, also if the address is the one that it was.
+ * FP_CLOCK_WENT_BACK changes neither. */
 fp_outcome fp_address_rotated(fp_device device, fp_address ble, const uint8_t salt[2], uint64_t clock);
 
-/* Forgets the owners' keys, the spent salts, the failures, every link's key and the name, which is empty then. With
- * FP_TAKEN save the stored list and the name, each if it is not what you saved last. */
+/* Forgets the owners' keys, the spent salts, the failures, every link's key and the name, which is empty then; no rotation
+ * is awaited any more. With FP_TAKEN save the stored list and the name, each if it is not what you saved last. */
 fp_outcome fp_factory_reset(fp_device device, uint64_t clock);
 
 /* ---- events on a link, 0 to 7; `clock` is in milliseconds and never goes back while the device is on */
@@ -407,6 +445,9 @@ fp_outcome fp_link_down(fp_device device, uint8_t link, uint64_t clock);
  * refusal leave the list as it was.
  *
  * The outputs need FP_RESPONSE_SIZE and FP_PACKET_MAX bytes, in every call: else 13. They do not overlap.
+ *
+ * With FP_TAKEN and reply.rotate the radio is to rotate, and requests get 16 until fp_address_rotated (see "Rotation"
+ * above).
  *
  * Ten requests in a row that no key fits get 7. All requests then get 5, until 300,000 ms after the tenth. */
 fp_outcome fp_key_based_write(fp_device device, uint8_t link, uint64_t clock, const uint8_t *request,

@@ -231,7 +231,8 @@ def brought_to(stage, fields):
     """A whole pairing up to this stage, at one clock and with one passkey."""
     link, clock = link_and_clock(fields)
     key, salt = fields.text("with"), fields.text("salt")
-    names, passkey = fields.text("names", "BLE 1"), fields.text("passkey", "123,456")
+    # A request that names the BLE address would make the device wait for a rotation.
+    names, passkey = fields.text("names", "public"), fields.text("passkey", "123,456")
     place = f"link {link}, clock {clock}"
     steps = {
         "asked": f"key-based write  {place}, with {key}, names {names}, salt {salt}",

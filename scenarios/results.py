@@ -1,18 +1,19 @@
-"""A result in words, as "0, tried 1, writes cc484d91db00df27d7e0bb60068eb1a2"."""
+"""A result in words, as "0, tried 1, named BLE, writes cc484d91db00df27d7e0bb60068eb1a2"."""
 
 from dataclasses import dataclass
 
 from reference.rules.device import MOST_KEYS
-from reference.rules.events import Reply, lent_outputs
+from reference.rules.events import Named, Reply, lent_outputs
 from reference.rules.recording import field_sizes, recorded_values
 
 from .fields import TextError, as_bytes, as_name, as_number
 from .lines import OF_RECORDINGS, FilterAsked, NameAsked, PayloadAsked, RecordAsked, Repeated, StoredListAsked
 
 REPLIES = {True: "yes", False: "no"}
+NAMED = {named.value: named for named in Named}
 NO_NAME = "no name"
 NO_LINE = "no line"
-PARTS = {"tried", "bonding", "reply", "writes", "packet"}
+PARTS = {"tried", "named", "bonding", "reply", "writes", "packet"}
 
 
 @dataclass(frozen=True)
@@ -25,7 +26,7 @@ class Result:
 
 
 def in_words(result, asked):
-    """What is not said is nothing: no key tried, no address, no reply, outputs as they were."""
+    """What is not said is nothing: no key tried, no address named or handed out, no reply, outputs as they were."""
     reply = result.reply
     if isinstance(asked, NameAsked):
         return name_in_words(reply.out)
@@ -35,6 +36,7 @@ def in_words(result, asked):
         return ", ".join(result.lines) or NO_LINE
     words = [str(reply.answer)]
     words += [f"tried {reply.tried}"] if reply.tried else []
+    words += [f"named {reply.named.value}"] if reply.named else []
     words += [f"bonding {reply.bond.hex()}"] if reply.bond else []
     words += [f"reply {REPLIES[reply.confirm]}"] if reply.confirm is not None else []
     words += [f"writes {grouped(reply.out[: result.written], asked)}"] if result.written else []
@@ -76,9 +78,16 @@ def from_words(text, asked):
     out, second = lent_outputs(asked.event if isinstance(asked, Repeated) else asked)
     # "Bytes past those written stay."
     outputs = written + out[len(written) :], len(packet), packet + second[len(packet) :]
-    tried = as_number("tried", values.get("tried", 0))
-    found = Reply(as_number("answer", answer), tried, bond, confirm[reply], *outputs)
+    tried, named = as_number("tried", values.get("tried", 0)), as_named(values.get("named"))
+    found = Reply(as_number("answer", answer), tried, bond, confirm[reply], *outputs, named)
     return Result(found, len(written))
+
+
+def as_named(value):
+    """The address that an accepted request named, or None."""
+    if value is not None and value not in NAMED:
+        raise TextError(f"named '{value}' is neither {' nor '.join(NAMED)}")
+    return NAMED.get(value)
 
 
 def grouped(data, asked):

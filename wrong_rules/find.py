@@ -9,9 +9,17 @@ from scenarios.sides import RIGHT_RULES, SecondProgram
 
 # The texts that speak of a file of the rules are run first, since the search ends with the first difference.
 FIRST = {
-    "model": ("refusals_without_change", "order_of_checks", "clock_backwards"),
+    "model": ("refusals_without_change", "order_of_checks", "clock_backwards", "rotation_wait"),
     "clock": ("stage_timers", "lockout"),
-    "control": ("overflow_marker", "power_on", "factory_reset", "pairing_mode", "address_rotation", "links"),
+    "control": (
+        "overflow_marker",
+        "power_on",
+        "factory_reset",
+        "pairing_mode",
+        "address_rotation",
+        "links",
+        "rotation_wait",
+    ),
     "device": ("links", "ten_keys"),
     "key_based": (
         "personalized_name",
@@ -21,6 +29,7 @@ FIRST = {
         "request_flags",
         "remembered_salts",
         "lockout",
+        "rotation_wait",
     ),
     "pairing": ("pairing_stages", "passkey", "account_keys", "capability"),
     "account_keys": ("order_of_use", "account_keys"),

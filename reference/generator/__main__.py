@@ -31,7 +31,7 @@ def arguments():
 
 
 def main():
-    """The exit code: 1 if an answer, a stage, or a situation of uses or filters was not reached."""
+    """The exit code: 1 if an answer, a stage or a situation was not reached."""
     options = arguments()
     coverage, rare_cases, seconds = run(options.events, options.seed)
     answers, stages, situations = not_reached(coverage)

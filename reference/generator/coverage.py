@@ -1,4 +1,4 @@
-"""Counts what a run has reached: answers, answers of each kind of event, stages, uses of keys, kept filters, lists' versions."""
+"""Counts what a run has reached: answers, answers of each kind of event, stages, and situations by name."""
 
 from collections import Counter
 
@@ -7,8 +7,9 @@ from ..rules.events import KINDS
 from .filters import Filters
 from .list_versions import ListVersions
 from .uses import Uses
+from .waits import Waits
 
-ANSWERS = range(16)
+ANSWERS = range(17)
 
 
 class Coverage:
@@ -21,6 +22,7 @@ class Coverage:
         self.uses = Uses()
         self.filters = Filters()
         self.list_versions = ListVersions()
+        self.waits = Waits()
 
     def note(self, before, event, after, reply):
         """One event, the states around it, and its reply."""
@@ -28,9 +30,12 @@ class Coverage:
         self.pairs[type(event).__name__, reply.answer] += 1
         for stage in stages_entered(before, after):
             self.stages[stage] += 1
-        self.uses.note(before, event, after, reply)
-        self.filters.note(before, event, after, reply)
-        self.list_versions.note(before, event, after, reply)
+        for situations in self.situations():
+            situations.note(before, event, after, reply)
+
+    def situations(self):
+        """Uses of keys, kept filters, lists' versions and waits for a rotation."""
+        return self.uses, self.filters, self.list_versions, self.waits
 
 
 def stages_entered(before, after):
@@ -42,10 +47,10 @@ def stages_entered(before, after):
 
 
 def not_reached(coverage):
-    """The answers, the stages, and the situations of uses, filters and lists that the run has not reached."""
+    """The answers, the stages and the situations that the run has not reached."""
     answers = [answer for answer in ANSWERS if not coverage.answers[answer]]
     stages = [stage.value for stage in Stage if not coverage.stages[stage]]
-    return answers, stages, [*coverage.uses.missed(), *coverage.filters.missed(), *coverage.list_versions.missed()]
+    return answers, stages, [name for situations in coverage.situations() for name in situations.missed()]
 
 
 def table(coverage):
@@ -58,6 +63,6 @@ def table(coverage):
     rows.append("all".ljust(20) + totals)
     stages = ", ".join(f"{stage.value} {coverage.stages[stage]}" for stage in Stage)
     rows.append("stages entered: " + stages)
-    situations = {**coverage.uses.counts, **coverage.filters.counts, **coverage.list_versions.counts}
-    rows += [f"{times:>7}  {name}" for name, times in situations.items()]
+    for situations in coverage.situations():
+        rows += [f"{times:>7}  {name}" for name, times in situations.counts.items()]
     return "\n".join(rows)

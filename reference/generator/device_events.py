@@ -2,13 +2,14 @@
 
 from ..rules.events import AddressRotated, FactoryReset, LinkDown, LinkUp, Overflow, PairingMode
 from . import power_on_events
+from .clocks import earlier
 from .random_values import busy_link, link_number, weighted
-from .rates import DEVICE_EVENTS, SAME_SALT
+from .rates import DEVICE_EVENTS, EQUAL_ADDRESSES, SAME_ADDRESS, SAME_SALT
 
 
-def device_event(random, device, history, clock):
+def device_event(random, device, history, clock, rates=DEVICE_EVENTS):
     """One of these events, at this clock if it carries one."""
-    return EVENTS[weighted(random, DEVICE_EVENTS)](random, device, history, clock)
+    return EVENTS[weighted(random, rates)](random, device, history, clock)
 
 
 def some_link(random, device):
@@ -34,9 +35,16 @@ def mode_off(random, device, history, clock):
 
 
 def rotation(random, device, history, clock):
-    ble, salt = random.randbytes(6), random.randbytes(2)
-    # Now and then the salt that is there; its own first byte decides.
-    return AddressRotated(ble, device.salt if salt[0] < 256 * SAME_SALT else salt, clock)
+    """Now and then to the address or the salt that is there, or to the public address."""
+    new = 1 - SAME_ADDRESS - EQUAL_ADDRESSES
+    addresses = {random.randbytes(6): new, device.ble: SAME_ADDRESS, device.public: EQUAL_ADDRESSES}
+    salt = device.salt if random.random() < SAME_SALT else random.randbytes(2)
+    return AddressRotated(weighted(random, addresses), salt, clock)
+
+
+def refused_rotation(random, device, history, clock):
+    """Before the stored clock."""
+    return rotation(random, device, history, earlier(random, device, None))
 
 
 def overflow(random, device, history, clock):
@@ -45,6 +53,11 @@ def overflow(random, device, history, clock):
 
 def reset(random, device, history, clock):
     return FactoryReset(clock)
+
+
+def refused_reset(random, device, history, clock):
+    """Before the stored clock."""
+    return FactoryReset(earlier(random, device, None))
 
 
 def power_on(random, device, history, clock):
@@ -65,8 +78,10 @@ EVENTS = {
     "mode on": mode_on,
     "mode off": mode_off,
     "rotation": rotation,
+    "refused rotation": refused_rotation,
     "overflow": overflow,
     "reset": reset,
+    "refused reset": refused_reset,
     "power-on": power_on,
     "malformed list": malformed_list,
     "bad name": bad_name,

@@ -65,6 +65,8 @@ class Generator:
             return FactoryReset(self.clock(device))
         if self.history.just_dropped and self.chance(rates.EXPECTED_EVENT_AFTER_DROP):
             return self.event_after_drop(device)
+        if device.rotation_awaited:
+            return getattr(self, weighted(self.random, rates.DURING_WAIT))(device)
         return None
 
     def by_phase(self, device):
@@ -179,6 +181,11 @@ class Generator:
         if self.chance(0.05):
             clock = earlier(self.random, device, None)
         return device_events.device_event(self.random, device, self.history, clock)
+
+    def device_event_during_wait(self, device):
+        """An event that lifts the wait for a rotation, or that could be thought to."""
+        clock, events = self.clock(device), rates.DEVICE_EVENTS_DURING_WAIT
+        return device_events.device_event(self.random, device, self.history, clock, events)
 
 
 def uncounted(random, device):

@@ -7,6 +7,7 @@ from ..rules.events import KeyBasedWrite
 from ..rules.key_based import MOST_FAILURES
 from . import known_secrets, seeker_blocks
 from .random_values import account_key, lent_output, lent_packet, other_bit, resized, weighted
+from .rates import BLE_NAMED
 
 # "The salt is bytes 14 to 15 if flags 0x40 or 0x10 is set, else 8 to 15."
 SHORT_SALT_FLAGS = (0x40, 0x40, 0x10, 0x10, 0x50, 0xC0, 0x90, 0x60, 0x30, 0x70, 0xDF, 0xFF)
@@ -48,7 +49,8 @@ def encrypted(random, device, link, clock, raw):
 
 def raw_request(random, device, flags, tail, kind=0x00, address=None):
     """The request before encryption; the tail is its last 8 bytes."""
-    address = random.choice((device.ble, device.public)) if address is None else address
+    if address is None:
+        address = device.ble if random.random() < BLE_NAMED else device.public
     return bytes([kind, flags]) + address + tail
 
 

@@ -1,6 +1,6 @@
 """Pairing, passkey and account key events: the one that a link waits for, and others."""
 
-from ..rules.device import Stage
+from ..rules.device import MOST_KEYS, Stage
 from ..rules.events import (
     AccountKeyWrite,
     ConfirmationNeeded,
@@ -67,7 +67,9 @@ def some_account_key(random, device, history):
     """A new key, one that is held, one that was held, one close to a held one, or one of a known secret."""
     earlier = history.earlier_keys(device)
     held = 1 if device.keys else 0
-    rates = {"new": 9, "held": 6 * held, "close": held, "earlier": 2 if earlier else 0, "of a secret": 2}
+    # In a full list more often, so that the key at each place is written again.
+    again = 10 if len(device.keys) == MOST_KEYS else 6
+    rates = {"new": 9, "held": again * held, "close": held, "earlier": 2 if earlier else 0, "of a secret": 2}
     way = weighted(random, rates)
     if way == "new":
         return account_key(random)

@@ -5,9 +5,10 @@ from ..rules.stored_list import MOST_IN, pack
 from .malformed_lists import MALFORMED
 from .random_names import ill_formed, long_name, some_name
 from .random_values import different_keys, weighted
+from .rates import EQUAL_ADDRESSES
 
 # Full lists often, so that evictions come soon; the older version's most as well.
-COUNTS = {0: 2, 1: 2, 2: 2, 3: 2, 4: 2, 5: 3, 6: 1.5, 7: 1.5, 8: 1.5, 9: 2, 10: 6}
+COUNTS = {0: 2.5, 1: 2.5, 2: 2.5, 3: 2.5, 4: 2.5, 5: 3.5, 6: 2, 7: 2, 8: 2, 9: 2, 10: 7}
 
 
 def power_on(random, device, history, stored, name):
@@ -16,7 +17,7 @@ def power_on(random, device, history, stored, name):
         public, model = random.randbytes(6), random.randbytes(3)
     else:
         public, model = device.public, device.model
-    ble = public if random.random() < 0.03 else random.randbytes(6)
+    ble = public if random.random() < EQUAL_ADDRESSES else random.randbytes(6)
     return PowerOn(stored, name, public, ble, model, random.randbytes(2))
 
 

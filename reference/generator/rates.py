@@ -3,7 +3,7 @@
 # How often each phase comes, and how many events it has.
 PHASES = {
     "pairings": 10,
-    "uses": 3,
+    "uses": 4,
     "failures": 3.5,
     "lockouts": 3.5,
     "salts": 4,
@@ -27,7 +27,7 @@ LENGTHS = {
 # What is sent in each phase; the actions are methods of the generator.
 ACTIONS = {
     "pairings": {
-        "fitting_request": 16, "expected_event": 64, "failing_event": 7, "any_pairing_event": 4,
+        "fitting_request": 16, "expected_event": 64, "failing_event": 7, "any_pairing_event": 7,
         "event_after_drop": 2, "nonfitting_request": 3, "replayed_request": 2, "wrong_size_request": 2,
         "name_write": 16, "device_event": 7,
     },
@@ -36,9 +36,9 @@ ACTIONS = {
     },
     "failures": {
         "nonfitting_request": 70, "replayed_request": 6, "public_key_request": 4, "fitting_request": 3,
-        "expected_event": 6, "name_write": 2, "wrong_size_request": 2, "device_event": 5,
+        "expected_event": 6, "name_write": 4, "wrong_size_request": 2, "device_event": 5,
     },
-    "lockouts": {"request_before_lockout": 92, "device_event": 4, "expected_event": 4},
+    "lockouts": {"request_before_lockout": 90, "device_event": 4, "expected_event": 4, "name_write": 3},
     "salts": {
         "fitting_request": 46, "replayed_request": 34, "expected_event": 12, "nonfitting_request": 3,
         "name_write": 3, "device_event": 3,
@@ -67,9 +67,9 @@ CLOCKS = {
     "pairings": {"small step": 950, "stage limit": 20, "earlier": 8, "far ahead": 3},
     "uses": STEADY,
     "failures": {"small step": 850, "failure limit": 70, "earlier": 8},
-    "lockouts": STEADY,
+    "lockouts": {"small step": 980, "earlier": 16, "stage limit": 5},
     "salts": STEADY,
-    "timers": {"small step": 600, "stage limit": 380, "earlier": 10, "far ahead": 10},
+    "timers": {"small step": 600, "stage limit": 380, "earlier": 10, "far ahead": 15},
     "mixed": {
         "small step": 800, "stage limit": 50, "failure limit": 30, "earlier": 40, "far ahead": 20,
         "integer width": 10,
@@ -81,7 +81,17 @@ CLOCKS = {
 # Events of the whole device; those that drop every K are rare.
 DEVICE_EVENTS = {
     "link up": 8, "link down": 8, "mode on": 10, "mode off": 7, "rotation": 13, "overflow": 13,
-    "reset": 3, "power-on": 8, "malformed list": 24, "bad name": 6,
+    "reset": 3, "power-on": 10, "malformed list": 24, "bad name": 6, "refused rotation": 0.5, "refused reset": 1,
+}
+
+# What is sent while a rotation is awaited: most often the phase goes on, and the rotation comes soon.
+DURING_WAIT = {
+    "by_phase": 50, "device_event_during_wait": 32, "furthest_event": 8, "fitting_request": 3, "replayed_request": 3,
+    "nonfitting_request": 2, "public_key_request": 2,
+}
+DEVICE_EVENTS_DURING_WAIT = {
+    "rotation": 25, "refused rotation": 1, "refused reset": 0.6, "overflow": 1, "link up": 1.5, "link down": 1.5,
+    "mode on": 1.5, "mode off": 0.8, "reset": 0.3, "power-on": 0.4, "malformed list": 1, "bad name": 0.4,
 }
 
 # Chances of one event, whatever the phase.
@@ -93,3 +103,8 @@ POWER_ON_WHEN_LOCKED = 0.01
 WRONG_LINK = 0.008
 SEVERAL_FAULTS = 0.02
 SAME_SALT = 0.1
+SAME_ADDRESS = 0.1
+# The public address is named more often: behind a request that named the BLE address the others wait for a rotation.
+BLE_NAMED = 0.25
+# The address that power-on or a rotation brings is the public one.
+EQUAL_ADDRESSES = 0.05

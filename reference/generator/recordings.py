@@ -1,12 +1,16 @@
 """Random recordings: of random runs, whole, with faults, cut, and at the limits of lengths."""
 
+from dataclasses import replace
 from random import Random
 
+from ..rules.device import MOST_KEYS
 from ..rules.events import AccountKeyWrite, PowerOn
 from ..rules.model import step
 from ..rules.recording import LENGTH_FIELD, MOST_LENGTH, write_record
+from ..rules.stored_list import pack
 from .every_kind import one_of_each
 from .generate import Generator
+from .random_values import different_keys
 from .recording_faults import FAULTS, KIND_PLACE, LENGTHS, MARKER, POWER_ON, with_length
 
 RUN = 60
@@ -45,6 +49,7 @@ def every_recording(seed, runs):
     for make in (of_limit_lengths, across_buffers, cut_at_the_last_places):
         yield from make(str(seed))
     yield large(str(seed))
+    yield of_every_list_size(str(seed))
     for run in range(1, runs):
         yield from of_a_run(f"{seed}.{run}")
 
@@ -111,10 +116,23 @@ def with_every_fault(random):
     """A recording for each fault, which a record of every kind has."""
     for fault in FAULTS:
         events = one_of_each(random, random.randrange(2**64))
-        first = next(event for event in events if isinstance(event, PowerOn))
+        first = power_on_among(events)
         # Three times, since some faults have several forms.
         faulty = [fault(random, recorded(event)) or b"" for event in events for _ in range(3)]
         yield b"".join([recorded(first), *faulty, *map(recorded, events)])
+
+
+def power_on_among(events):
+    return next(event for event in events if isinstance(event, PowerOn))
+
+
+def of_every_list_size(seed):
+    """A power-on and a marker for each number of keys that a list can have."""
+    random, records = Random(seed), []
+    for count in range(MOST_KEYS + 1):
+        stored = pack(different_keys(random, count))
+        records += [recorded(replace(power_on_among(one_of_each(random, 0)), stored=stored)), MARKER]
+    return b"".join(records)
 
 
 def filled(random, recording, size):

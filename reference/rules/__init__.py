@@ -1,1 +1,1 @@
-"""Document 01, with requests (i) to (iii) of document 02, in Python: a device, its events, the answers, recordings."""
+"""Document 01 with requests (i) to (iii) and (v) to (vii) of document 02: a device, its events, answers, recordings."""

@@ -35,13 +35,15 @@ def pairing_mode(device, event):
 
 
 def address_rotated(device, event):
-    """ "(new BLE address and new 2-byte filter salt). Nothing else changes." """
+    """ "(new BLE address and new 2-byte filter salt). Nothing else changes", but for the wait that it lifts."""
     kept = account_key_filter(device.keys, event.salt)
-    return device.copy(ble=event.ble, salt=event.salt, filter=kept), plain_reply(event, 0)
+    # "A marker does not lift it; rotation, power-on and factory reset do."
+    return device.copy(ble=event.ble, salt=event.salt, filter=kept, rotation_awaited=False), plain_reply(event, 0)
 
 
 def factory_reset(device, event):
     """ "Empties the key list and spent salts, drops every K, sets the count to 0." """
     kept = account_key_filter((), device.salt)
-    # Names are "emptied by factory reset".
-    return drop_all(device).copy(keys=(), filter=kept, name=b"", spent=(), failures=0), plain_reply(event, 0)
+    # Names are "emptied by factory reset", which also lifts the wait for a rotation.
+    device = drop_all(device).copy(keys=(), filter=kept, name=b"")
+    return device.copy(spent=(), failures=0, rotation_awaited=False), plain_reply(event, 0)

@@ -48,6 +48,8 @@ class Device:
     failed_at: int = 0
     spent: tuple[bytes, ...] = ()
     pairing_mode: bool = False
+    # "Until the rotation, further key-based writes get a new answer 16".
+    rotation_awaited: bool = False
 
     def copy(self, **changes):
         """The same device with some fields changed."""

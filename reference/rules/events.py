@@ -1,6 +1,7 @@
 """The fourteen kinds of event of document 01 and of request (i) of document 02, as plain data, and the reply to one."""
 
 from dataclasses import dataclass
+from enum import Enum
 
 
 @dataclass(frozen=True)
@@ -146,6 +147,13 @@ KINDS_ON_A_LINK = (
 LENDING = (KeyBasedWrite, PasskeyWrite)
 
 
+class Named(Enum):
+    """The address that an accepted request named: one that named the BLE address "asks the radio to rotate"."""
+
+    BLE = "BLE"
+    PUBLIC = "public"
+
+
 @dataclass(frozen=True)
 class Reply:
     """The answer number, all that it hands out, and both lent outputs afterwards."""
@@ -157,6 +165,7 @@ class Reply:
     out: bytes = b""
     packet_length: int = 0
     packet: bytes = b""
+    named: Named | None = None
 
 
 def lent_outputs(event):

@@ -1,4 +1,4 @@
-"""The device of document 01 and requests (i), (ii) and (v): one step for each event, in the document's order of checks."""
+"""The device of document 01 with requests (i), (ii) and (v) to (vii): one step for each event, in the checks' order."""
 
 from . import control, events, key_based, name, pairing
 from .clock import clock_step

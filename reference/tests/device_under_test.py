@@ -65,8 +65,8 @@ class DeviceUnderTest:
         block = self.request_block(key, **parts)
         return self.raw_request(block, link, clock, out, packet, nonce)
 
-    def request_block(self, key, flags=0, address=BLE, salt=None, seeker_address=b"", kind=0):
-        """The encrypted request."""
+    def request_block(self, key, flags=0, address=PUBLIC, salt=None, seeker_address=b"", kind=0):
+        """The encrypted request; one that names the public address leaves the device ready for the next."""
         salt = self.fresh_salt() if salt is None else salt
         return seeker_blocks.request_block(key, flags, address, salt, seeker_address, kind)
 

@@ -236,9 +236,9 @@ class DeviceEvents(unittest.TestCase):
         expected = self.tested.device.copy(ble=b"\x09" * 6, salt=b"\x01\x02", filter=kept, clock=51)
         self.assertEqual(self.tested.send(AddressRotated(b"\x09" * 6, b"\x01\x02", 51)), 0)
         self.assertEqual(self.tested.device, expected)
-        self.assertEqual(self.tested.request(KEY, 5, 51), 7)
-        self.assertEqual(self.tested.request(KEY, 5, 51, address=b"\x09" * 6), 0)
+        self.assertEqual(self.tested.request(KEY, 5, 51, address=BLE), 7)
         self.assertEqual(self.tested.request(KEY, 5, 51, address=PUBLIC), 0)
+        self.assertEqual(self.tested.request(KEY, 5, 51, address=b"\x09" * 6), 0)
 
     def test_factory_reset(self):
         self.tested.request(account_key(9), 5, 51)

@@ -59,7 +59,7 @@ class Generating(unittest.TestCase):
         other = generated(500, 6)
         self.assertNotEqual([s[1] for s in other], [s[1] for s in self.steps[:500]])
 
-    def test_all_answers_stages_and_uses_are_reached(self):
+    def test_all_answers_stages_and_situations_are_reached(self):
         coverage = Coverage()
         for one in self.steps:
             coverage.note(*one)
@@ -149,6 +149,23 @@ class MistakesWeHaveSeen(unittest.TestCase):
         def counting(device, event):
             after, reply = key_based.key_based_write(device, event)
             return (key_based.count_failure(after) if reply.answer == 6 else after), reply
+
+        with mock.patch.dict(model.RULES, {events.KeyBasedWrite: counting}):
+            self.assert_found()
+
+    def test_marker_lifts_the_wait_for_a_rotation(self):
+        def lifting(device, event):
+            after, reply = overflow(device, event)
+            return after.copy(rotation_awaited=False), reply
+
+        overflow = control.overflow
+        with mock.patch.object(control, "overflow", lifting):
+            self.assert_found()
+
+    def test_answer_16_counted(self):
+        def counting(device, event):
+            after, reply = key_based.key_based_write(device, event)
+            return (key_based.count_failure(after) if reply.answer == 16 else after), reply
 
         with mock.patch.dict(model.RULES, {events.KeyBasedWrite: counting}):
             self.assert_found()

@@ -52,8 +52,8 @@ class Trying(unittest.TestCase):
         self.assertEqual(tested.request(KEYS[0], address=SEEKER), 7)
         self.assertEqual(tested.request(KEYS[0], address=BLE[:5] + b"\x00"), 7)
         self.assertEqual(tested.request(KEYS[0], address=b"\x00" + BLE[1:]), 7)
-        self.assertEqual(tested.request(KEYS[0], address=BLE), 0)
         self.assertEqual(tested.request(KEYS[0], address=PUBLIC), 0)
+        self.assertEqual(tested.request(KEYS[0], address=BLE), 0)
 
     def test_a_failure_leaves_the_links_k(self):
         tested = DeviceUnderTest(KEYS)

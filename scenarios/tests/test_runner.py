@@ -5,9 +5,12 @@ import tempfile
 import unittest
 from dataclasses import replace
 
+from differential.library import reply_of
+from differential.structs import FpReply
+
 from ..fields import TextError
 from ..run import first_difference
-from ..sides import SecondProgram
+from ..sides import BuiltLibrary, SecondProgram
 from ..texts import read, read_all
 from ..write import rows, write
 
@@ -51,12 +54,31 @@ class Comparing(Texts):
 
     def test_each_part_of_a_result_counts(self):
         line = "key-based write  link 0, clock 0, with key 1, names BLE 1, flags 40, seeker d89ef3010203, salt 0001"
-        right = "0, tried 1, bonding d89ef3010203, writes 5648e98396008dcc2221eb821a7cf50b"
+        right = "0, tried 1, named BLE, bonding d89ef3010203, writes 5648e98396008dcc2221eb821a7cf50b"
         power_on = "power-on  keys 1 -> 0\n"
         self.assertIsNone(self.difference(f"{power_on}{line} -> {right}"))
-        changes = (("tried 1", "tried 2"), ("010203", "010204"), ("f50b", "f50c"), (", w", ", reply no, w"))
-        for part, other in changes:
+        changes = ("tried 1", "tried 2"), ("010203", "010204"), ("f50b", "f50c"), (", w", ", reply no, w")
+        addresses = ("named BLE", "named public"), ("named BLE, ", "")
+        for part, other in changes + addresses:
             self.assertIsNotNone(self.difference(f"{power_on}{line} -> {right.replace(part, other)}"))
+
+    def test_the_named_address_is_said_behind_the_number_tried(self):
+        request = "key-based write  link 0, clock 0, with key 1, names {}, salt 000000000000000{}"
+        words = "0, tried 1, named {}, writes 5648e98396008dcc2221eb821a7cf50b"
+        text = "power-on  keys 1 -> 0\n"
+        for number, (names, named) in enumerate((("public", "public"), ("BLE 1", "BLE"))):
+            text += request.format(names, number)
+            found = self.difference(text)
+            self.assertEqual(found.words(), f"the text has no result; found: {words.format(named)}")
+            text += f" -> {words.format(named)}\n"
+        self.assertIsNone(self.difference(f"{text}{request.format('public', 2)} -> 16"))
+
+    def test_an_address_is_named_by_the_accepted_answer_alone(self):
+        spent = "key-based write  link 0, clock 0, with key 1, names BLE 1, salt 0000000000000001"
+        text = RIGHT.partition("pairing started")[0] + spent
+        self.assertIsNone(self.difference(f"{text} -> 8, tried 1"))
+        found = self.difference(f"{text} -> 8, tried 1, named BLE")
+        self.assertEqual(found.words(), "the text says: 8, tried 1, named BLE; found: 8, tried 1")
 
     def test_bytes_behind_those_written_count(self):
         class WritesTooMuch(SecondProgram):
@@ -78,7 +100,8 @@ class Comparing(Texts):
 
     def test_each_part_of_a_packet_counts(self):
         line = "key-based write  link 0, clock 0, with key 1, names BLE 1, flags 20, salt 0000000000000001"
-        right = "0, tried 1, writes 5648e98396008dcc2221eb821a7cf50b, packet 9cc61af31df28505 3132333435363738 3d"
+        writes = "writes 5648e98396008dcc2221eb821a7cf50b, packet 9cc61af31df28505 3132333435363738 3d"
+        right = f"0, tried 1, named BLE, {writes}"
         power_on = 'power-on  keys 1, name "a" -> 0\n'
         self.assertIsNone(self.difference(f"{power_on}{line} -> {right}"))
         for part, other in (("9cc6", "9cc7"), ("3738", "3739"), (" 3d", " 3c"), (" 3d", ""), (" 3d", " 3d80")):
@@ -100,12 +123,12 @@ class Comparing(Texts):
 
     def test_the_key_of_the_second_secret_is_an_account_key(self):
         text = "power-on  keys 0 -> 0\npairing mode on  clock 0 -> 0\n"
-        request = "key-based write  link 0, clock 0, with {}, names BLE 1, salt 000000000000000{}"
-        writes = "writes 6b30ac739f3cc47bb04335234f102e5d"
+        request = "key-based write  link 0, clock 0, with {}, names public, salt 000000000000000{}"
+        writes = "named public, writes 6b30ac739f3cc47bb04335234f102e5d"
         for number, key in enumerate(("second secret", "key 0")):
             self.assertIsNone(self.difference(f"{text}{request.format(key, number)} -> 0, tried 1, {writes}"))
         found = self.difference(f"{text}{request.format('shared secret', 2)} -> 0, tried 1, {writes}")
-        self.assertIn("found: 0, tried 1, writes fbead8", found.words())
+        self.assertIn("found: 0, tried 1, named public, writes fbead8", found.words())
 
     def test_missing_result(self):
         found = self.difference("power-on  keys 1")
@@ -122,6 +145,36 @@ class Comparing(Texts):
         found = self.difference(RIGHT.replace("keys 1", "keys 2"))
         self.assertEqual(found.words(), "the text says: 0; found: 7")
 
+    def test_the_steps_name_the_public_address_unless_the_line_says_otherwise(self):
+        begin = "power-on  keys 1 -> 0\n"
+        brought = "brought to asked  link {0}, clock 0, with key 1{1}, salt 000000000000000{0} -> 0\n"
+        self.assertIsNone(self.difference(begin + brought.format(0, "") + brought.format(1, "")))
+        found = self.difference(begin + brought.format(0, ", names BLE 1") + brought.format(1, ""))
+        self.assertEqual(found.words(), "the text says: 0; found: 16")
+
+
+class OfTheLibrary(Texts):
+    def found(self, named, rotate):
+        """The difference of a library whose replies have these, or None."""
+
+        class Answering:
+            def off(self):
+                return None
+
+            def step(self, device, event):
+                return device, reply_of(FpReply(named=named, rotate=rotate))
+
+        return first_difference(self.text("power-on  keys 1 -> 0"), BuiltLibrary(Answering(), None))
+
+    def test_the_named_address_counts(self):
+        self.assertIsNone(self.found(0, 0))
+        self.assertEqual(self.found(1, 1).words(), "the text says: 0; found: 0, named BLE")
+        self.assertEqual(self.found(2, 0).words(), "the text says: 0; found: 0, named public")
+
+    def test_a_rotation_is_asked_for_exactly_with_the_ble_address(self):
+        for named, rotate in ((0, 1), (1, 0), (2, 1), (1, 2), (3, 0)):
+            self.assertEqual(self.found(named, rotate).words(), f"named {named}, rotate {rotate}")
+
 
 class Errors(Texts):
     def test_in_words(self):
@@ -133,6 +186,7 @@ class Errors(Texts):
         self.assertIn("stands twice", self.error("link up  link 0, link 0, clock 0"))
         self.assertIn("is not hexadecimal", self.error("power-on  list 0x"))
         self.assertIn("is no result", self.error("power-on  keys 1 -> 0, tired 1"))
+        self.assertIn("named 'BLE 1' is neither BLE nor public", self.error("power-on  keys 1 -> 0, named BLE 1"))
         self.assertIn("either 'success' or 'failure'", self.error("pairing ended  link 0, clock 0"))
         self.assertIn("link 256 is above 255", self.error("link up  link 256, clock 0"))
         self.assertIn("there is no 'key 16'", self.error("power-on  keys 16"))

@@ -5,6 +5,7 @@ Left out, because no events can tell them from the right rules:
 - the clock step looks at the count before the stages: neither depends on the other;
 - the failure's moment is kept, or set to 0, when the count becomes 0: it is not read while the count is 0;
 - 5 is given from a count of ten on: the count is never above ten;
+- 16 comes before 5, or moves the failure's moment: the request that begins a wait sets the count to 0;
 - our passkey is kept when a link has left confirming, and the moment of a stage without timer: nothing reads them;
 - a use leaves the last key of the list where it is: it stands at the end already;
 - the filter is built anew where neither the keys nor the salt have changed: it gets the bytes that it had;

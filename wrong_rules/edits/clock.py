@@ -2,6 +2,7 @@
 
 FORGOTTEN = "    failures = 0 if forgotten else device.failures\n"
 LINKS = "    links = tuple(None if is_over(session, clock) else session for session in device.links)\n"
+STEPPED = "    return device.copy(clock=clock, links=links, failures=failures)\n"
 
 EDITS = (
     ("a stage is over at 9,999 ms", "STAGE_LASTS = 10_000", "STAGE_LASTS = 9_999"),
@@ -31,6 +32,19 @@ EDITS = (
         "the failure's age is kept in 32 bits",
         "clock - device.failed_at >=",
         "(clock - device.failed_at) % 2**32 >=",
+    ),
+    *(
+        (
+            f"the wait for a rotation ends {words}",
+            STEPPED,
+            STEPPED.replace("=failures)", f"=failures, rotation_awaited=device.rotation_awaited and {goes_on})"),
+        )
+        for words, goes_on in (
+            ("when a stage is over", "links == device.links"),
+            ("when no link holds a K", "any(links)"),
+            ("after 10,000 ms without an event", "clock - device.clock < STAGE_LASTS"),
+            ("after 300,000 ms without an event", "clock - device.clock < FAILURE_LASTS"),
+        )
     ),
     ("the clock is not stored", "device.copy(clock=clock, ", "device.copy("),
     ("the clock is kept in 32 bits", "device.copy(clock=clock, ", "device.copy(clock=clock % 2**32, "),

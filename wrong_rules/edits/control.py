@@ -5,14 +5,18 @@ REFUSED = "        return device, Reply(14)\n"
 TAKEN = "    return made, Reply(0)\n"
 CHANGED = "    return drop(device, event.link), plain_reply(event, 0)\n"
 MODE = "device.copy(pairing_mode=event.on)"
-ROTATED = "device.copy(ble=event.ble, salt=event.salt, filter=kept)"
+ROTATED = "device.copy(ble=event.ble, salt=event.salt, filter=kept, rotation_awaited=False)"
 BUILT_ON_ROTATION = "account_key_filter(device.keys, event.salt)"
-RESET = 'drop_all(device).copy(keys=(), filter=kept, name=b"", spent=(), failures=0)'
+RESET = (
+    '    device = drop_all(device).copy(keys=(), filter=kept, name=b"")\n'
+    "    return device.copy(spent=(), failures=0, rotation_awaited=False), plain_reply(event, 0)\n"
+)
 BUILT_ON_POWER_ON = "account_key_filter(keys, event.salt)"
 BAD = "    if keys is None or not is_name(event.name):\n"
 KEPT_IN_PROVED = 's if s and s.stage.value == "proved" else None'
 FIELDS = (
-    "links", "clock", "failures", "spent", "pairing_mode", "keys", "name", "ble", "salt", "filter", "public", "model"
+    "links", "clock", "failures", "spent", "pairing_mode", "keys", "name", "ble", "salt", "filter", "public", "model",
+    "rotation_awaited",
 )
 
 
@@ -24,6 +28,11 @@ def marker(change):
 def keeps(field):
     """Power-on keeps a field of the earlier device."""
     return f"    if device is not None:\n        made = made.copy({field}=device.{field})\n" + TAKEN
+
+
+def lifted(but_if):
+    """A rotation lifts the wait, but not if this is so."""
+    return ROTATED.replace("rotation_awaited=False", f"rotation_awaited=device.rotation_awaited and {but_if}")
 
 
 EDITS = (
@@ -47,6 +56,8 @@ EDITS = (
     ("the marker empties the name", MARKER, marker('name=b""')),
     ("the marker empties the filter", MARKER, marker('filter=b""')),
     ("the marker uses the first key", MARKER, marker("keys=device.keys[1:] + device.keys[:1]")),
+    ("the marker lifts the wait for a rotation", MARKER, marker("rotation_awaited=False")),
+    ("the marker begins a wait for a rotation", MARKER, marker("rotation_awaited=True")),
     (
         "a refused power-on drops every K",
         REFUSED,
@@ -97,6 +108,17 @@ EDITS = (
         REFUSED,
         "        kept = account_key_filter(device.keys, event.salt) if device else None\n"
         "        return (device.copy(filter=kept) if device else None), Reply(14)\n",
+    ),
+    (
+        "a refused power-on lifts the wait for a rotation",
+        REFUSED,
+        "        return (device.copy(rotation_awaited=False) if device else None), Reply(14)\n",
+    ),
+    (
+        "a power-on that is refused for its name lifts the wait for a rotation",
+        REFUSED,
+        "        lifts = device is not None and keys is not None\n"
+        "        return (device.copy(rotation_awaited=False) if lifts else device), Reply(14)\n",
     ),
     ("a malformed list gets 0", REFUSED, REFUSED.replace("14", "0")),
     ("a bad name gets 15", REFUSED, REFUSED.replace("14", "14 if keys is None else 15")),
@@ -150,6 +172,15 @@ EDITS = (
         CHANGED.replace("drop(device, event.link)", 'drop(device, event.link).copy(name=b"")'),
     ),
     ("pairing mode empties the name", MODE, 'device.copy(pairing_mode=event.on, name=b"")'),
+    ("pairing mode lifts the wait", MODE, "device.copy(pairing_mode=event.on, rotation_awaited=False)"),
+    *(
+        (
+            f"pairing mode {words} lifts the wait",
+            MODE,
+            f"device.copy(pairing_mode=event.on, rotation_awaited=device.rotation_awaited and {but_if})",
+        )
+        for words, but_if in (("on", "not event.on"), ("off", "event.on"))
+    ),
     ("rotation empties the name", ROTATED, ROTATED.replace(")", ', name=b"")')),
     ("pairing mode empties the filter", MODE, 'device.copy(pairing_mode=event.on, filter=b"")'),
     (
@@ -182,9 +213,18 @@ EDITS = (
     ("rotation empties the salts", ROTATED, ROTATED.replace(")", ", spent=())")),
     ("rotation sets the count to 0", ROTATED, ROTATED.replace(")", ", failures=0)")),
     ("rotation ends pairing mode", ROTATED, ROTATED.replace(")", ", pairing_mode=False)")),
+    ("rotation does not lift the wait", ROTATED, ROTATED.replace(", rotation_awaited=False", "")),
+    ("rotation to the same address does not lift the wait", ROTATED, lifted("event.ble == device.ble")),
+    ("rotation to the public address does not lift the wait", ROTATED, lifted("event.ble == device.public")),
+    ("rotation to the same salt does not lift the wait", ROTATED, lifted("event.salt == device.salt")),
+    ("rotation in pairing mode does not lift the wait", ROTATED, lifted("device.pairing_mode")),
+    ("rotation while a link holds a K does not lift the wait", ROTATED, lifted("any(device.links)")),
+    ("rotation begins a wait", ROTATED, ROTATED.replace("rotation_awaited=False", "rotation_awaited=True")),
+    ("a reset keeps the wait", RESET, RESET.replace(", rotation_awaited=False", "")),
+    ("a reset begins a wait", RESET, RESET.replace("rotation_awaited=False", "rotation_awaited=True")),
     ("a reset keeps the keys", RESET, RESET.replace("keys=(), ", "")),
     ("a reset keeps the filter", RESET, RESET.replace("filter=kept, ", "")),
-    ("a reset keeps the name", RESET, RESET.replace('name=b"", ', "")),
+    ("a reset keeps the name", RESET, RESET.replace(', name=b""', "")),
     ("a reset keeps the salts", RESET, RESET.replace("spent=(), ", "")),
     ("a reset keeps the count", RESET, RESET.replace(", failures=0", "")),
     ("a reset keeps every K", RESET, RESET.replace("drop_all(device)", "device")),

@@ -1,19 +1,20 @@
-"""The key-based write; the use of keys by requests stands apart."""
+"""The key-based write; the use of keys by requests and the wait for a rotation stand apart."""
 
-from . import uses_by_requests
+from . import rotation_wait, uses_by_requests
 
 LOCKED = "        return device, plain_reply(event, 5)\n"
 CHECK_5 = "    if device.failures == MOST_FAILURES:\n" + LOCKED
+CHECK_16 = rotation_wait.CHECK_16
 MODE_OFF = "        return device, plain_reply(event, 6)\n"
 CHECK_6 = "    if len(event.data) == 80 and not device.pairing_mode:\n" + MODE_OFF
 FAILED = "        return count_failure(device), plain_reply(event, 7, tried=len(keys))\n"
 SPENT = "        return device, plain_reply(event, 8, tried=place)\n"
-ADDRESS = "request[2:8] in (device.ble, device.public)"
-FITS = f"    return request[0] == REQUEST and {ADDRESS}\n"
+OTHER_TYPE = "    if request[0] != REQUEST:\n"
+BLE, PUBLIC = rotation_wait.BLE, rotation_wait.PUBLIC
 SALT = "    return request[14:] if request[1] & (BONDING | RETROACTIVE) else request[8:]\n"
 COUNTED = "device.copy(failures=device.failures + 1, failed_at=device.clock)"
 REMEMBERED = "    spent = (device.spent + (salt_of(request),))[-MOST_SALTS:]\n"
-ACCEPTED = "    device = device.copy(keys=keys, spent=spent, failures=0)\n"
+ACCEPTED = "    device = device.copy(keys=keys, spent=spent, failures=0, rotation_awaited=named is Named.BLE)\n"
 HELD = "    device = hold(device, event.link, Session(key, Stage.ASKED, device.clock))\n"
 RESPONSE = "encrypt(key, bytes([RESPONSE]) + device.public + event.salt)"
 BOND = "    bond = request[8:14] if request[1] & BONDING else None\n"
@@ -28,11 +29,18 @@ def changes(line, change):
     return line.replace("return device,", f"return {change},")
 
 
+def compared(line, part):
+    """A part of the address alone is compared."""
+    for address in ("request[2:8]", "device.ble", "device.public"):
+        line = line.replace(address, address + part)
+    return line
+
+
 EDITS = (
     ("nine failures lock", "MOST_FAILURES = 10", "MOST_FAILURES = 9"),
     ("eleven failures lock", "MOST_FAILURES = 10", "MOST_FAILURES = 11"),
     ("5 is left out", CHECK_5, ""),
-    ("6 comes before 5", CHECK_5 + CHECK_6, CHECK_6 + CHECK_5),
+    ("6 comes before 5", CHECK_5 + CHECK_16 + CHECK_6, CHECK_6 + CHECK_5 + CHECK_16),
     (
         "8 comes before 5",
         CHECK_5,
@@ -127,8 +135,8 @@ EDITS = (
     ),
     (
         "trying goes on when the salt is remembered",
-        "        if fits(device, request):\n",
-        "        if fits(device, request) and (salt_of(request) not in device.spent or key == keys[-1]):\n",
+        "        if named is not None:\n",
+        "        if named is not None and (salt_of(request) not in device.spent or key == keys[-1]):\n",
     ),
     (
         "16 bytes are tried with the secret too",
@@ -162,22 +170,18 @@ EDITS = (
         "    return device.keys\n\n\ndef first_fitting",
     ),
     ("the request is the last 16 bytes", "event.data[:16])", "event.data[-16:])"),
-    ("byte 0 is not looked at", FITS, FITS.replace("request[0] == REQUEST and ", "")),
-    ("type 0x10 fits", FITS, FITS.replace("request[0] == REQUEST", "request[0] in (REQUEST, 0x10)")),
-    ("the public address does not fit", FITS, FITS.replace("(device.ble, device.public)", "(device.ble,)")),
-    ("the BLE address does not fit", FITS, FITS.replace("(device.ble, device.public)", "(device.public,)")),
-    (
-        "the last byte of an address is not compared",
-        FITS,
-        FITS.replace(ADDRESS, "request[2:7] in (device.ble[:5], device.public[:5])"),
+    ("byte 0 is not looked at", OTHER_TYPE, "    if False:\n"),
+    ("type 0x10 fits", OTHER_TYPE, OTHER_TYPE.replace("!= REQUEST", "not in (REQUEST, 0x10)")),
+    ("the public address does not fit", PUBLIC, "    return None\n"),
+    ("the BLE address does not fit", BLE + PUBLIC, PUBLIC),
+    *(
+        (f"the {which} byte of {whose} address is not compared", right, compared(right, part))
+        for which, part in (("last", "[:5]"), ("first", "[1:]"))
+        for whose, right in (("the BLE", BLE), ("the public", PUBLIC))
     ),
-    (
-        "the first byte of an address is not compared",
-        FITS,
-        FITS.replace(ADDRESS, "request[3:8] in (device.ble[1:], device.public[1:])"),
-    ),
-    ("an address is compared in reverse", FITS, FITS.replace("request[2:8]", "request[7:1:-1]")),
-    ("any address fits", FITS, "    return request[0] == REQUEST\n"),
+    ("an address is compared in reverse", BLE + PUBLIC, (BLE + PUBLIC).replace("request[2:8]", "request[7:1:-1]")),
+    ("any address fits", PUBLIC, "    return Named.PUBLIC\n"),
+    ("any address fits as the BLE address", BLE, BLE.replace("request[2:8] == device.ble", "True")),
     ("the salt is always bytes 8 to 15", SALT, "    return request[8:]\n"),
     ("the salt is always bytes 14 to 15", SALT, "    return request[14:]\n"),
     ("flag 0x10 leaves the salt at byte 8", SALT, SALT.replace("(BONDING | RETROACTIVE)", "BONDING")),
@@ -280,6 +284,7 @@ EDITS = (
         HELD.replace("hold(device,", "hold(device.copy(links=(None,) * 8),"),
     ),
     *uses_by_requests.EDITS,
+    *rotation_wait.EDITS,
     ("the response names the BLE address", RESPONSE, RESPONSE.replace("device.public", "device.ble")),
     (
         "the response names the address that the request names",

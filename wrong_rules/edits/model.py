@@ -34,6 +34,22 @@ def uses(line, if_so):
     )
 
 
+def awaited_before(answer):
+    """16 comes before this answer in a key-based write."""
+    return (
+        f"    if answer == {answer} and isinstance(event, events.KeyBasedWrite) and device.rotation_awaited:\n"
+        "        return device, plain_reply(event, 16)\n" + REFUSED
+    )
+
+
+def lifts(kind):
+    """An event of this kind that gets 4 lifts the wait for a rotation."""
+    return EARLIER.replace(
+        "drop_all(device)",
+        f"drop_all(device).copy(rotation_awaited=device.rotation_awaited and not isinstance(event, events.{kind}))",
+    )
+
+
 def earlier(answer, later, if_so, device="device"):
     """A later check comes before this one in a name write."""
     return (
@@ -152,12 +168,46 @@ EDITS = (
         EARLIER.replace("drop_all(device)", "drop_all(device).copy(failures=0)"),
     ),
     (
+        "4 lifts the wait for a rotation",
+        EARLIER,
+        EARLIER.replace("drop_all(device)", "drop_all(device).copy(rotation_awaited=False)"),
+    ),
+    *(
+        (f"{words} that gets 4 lifts the wait for a rotation", EARLIER, lifts(kind))
+        for words, kind in (
+            ("a rotation", "AddressRotated"),
+            ("a reset", "FactoryReset"),
+            ("a key-based write", "KeyBasedWrite"),
+        )
+    ),
+    *((f"16 comes before {answer}", REFUSED, awaited_before(answer)) for answer in (1, 2, 13)),
+    (
+        "16 comes before 4",
+        EARLIER,
+        "        if isinstance(event, events.KeyBasedWrite) and device.rotation_awaited:\n"
+        "            return device, plain_reply(event, 16)\n" + EARLIER,
+    ),
+    *(
+        (
+            f"{words} gets 16 during the wait",
+            RULE,
+            f"    if isinstance(event, events.{kind}) and device.rotation_awaited:\n"
+            "        return clock_step(device, event.clock), plain_reply(event, 16)\n" + RULE,
+        )
+        for words, kind in (
+            ("pairing started", "PairingStarted"),
+            ("a passkey write", "PasskeyWrite"),
+            ("an account key write", "AccountKeyWrite"),
+            ("a name write", "NameWrite"),
+        )
+    ),
+    (
         "4 does what the event does",
         EARLIER,
         "        after, _ = RULES[type(event)](device, event)\n"
         "        return drop_all(after), plain_reply(event, 4)\n",
     ),
-    *((f"{answer} makes no clock step", RULE, no_clock_step(answer)) for answer in (5, 6, 8, 9, 12, 15)),
+    *((f"{answer} makes no clock step", RULE, no_clock_step(answer)) for answer in (5, 6, 8, 9, 12, 15, 16)),
     (
         "a taken name write makes no clock step",
         RULE,
@@ -174,5 +224,13 @@ EDITS = (
         "link down drops nothing",
         "events.LinkDown: control.link_changed",
         "events.LinkDown: lambda d, e: (d, plain_reply(e, 0))",
+    ),
+    *(
+        (
+            f"link {words} lifts the wait for a rotation",
+            f"events.{kind}: control.link_changed",
+            f"events.{kind}: lambda d, e: control.link_changed(d.copy(rotation_awaited=False), e)",
+        )
+        for words, kind in (("up", "LinkUp"), ("down", "LinkDown"))
     ),
 )

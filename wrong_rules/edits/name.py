@@ -93,6 +93,7 @@ EDITS = (
     ("15 forgets our passkey", REFUSED, refused(NO_PASSKEY)),
     ("15 empties the name", REFUSED, refused('device.copy(name=b"")')),
     ("15 takes what was read", REFUSED, refused("device.copy(name=device.name if name is None else name)")),
+    ("a taken name write lifts the wait for a rotation", TAKEN, taken("device.copy(rotation_awaited=False)")),
     ("15 counts as a failure", REFUSED, refused("device.copy(failures=min(10, device.failures + 1))")),
     ("15 sets the count to 0", REFUSED, refused("device.copy(failures=0)")),
     ("a taken name is not stored", TAKEN, TAKEN.replace("device.copy(name=name)", "device")),

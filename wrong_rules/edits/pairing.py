@@ -22,6 +22,8 @@ BAD_PASSKEY = "        return refuse(device, event, 12)\n    # \"bytes 1 to 3"
 TAKEN = "    device = drop(device, event.link)\n    # \"A use is"
 NEW_KEY = "    if key not in device.keys:\n"
 BUILT = "        kept = account_key_filter(keys, device.salt)\n"
+STARTED = "    return enter(device, event, Stage.PAIRING)\n"
+LIFTED = "device.copy(rotation_awaited=False)"
 
 
 def keeps(answer):
@@ -174,6 +176,16 @@ EDITS = (
         "pairing success drops K",
         SUCCESS,
         "    return drop(device, event.link), plain_reply(event, 0)\n",
+    ),
+    *(
+        (f"{words} lifts the wait for a rotation", line, line.replace("(device, event", f"({LIFTED}, event"))
+        for words, line in (
+            ("pairing started", STARTED),
+            ("an equal passkey", PROVED),
+            ("pairing failure", FAILURE),
+            ("pairing success", SUCCESS),
+            ("a taken account key write", TAKEN),
+        )
     ),
     ("an account key begins with 0x05", "ACCOUNT_KEY = 0x04", "ACCOUNT_KEY = 0x05"),
     (

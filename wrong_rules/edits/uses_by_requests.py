@@ -1,7 +1,7 @@
 """The key-based write: which account key a request uses."""
 
 USED = "    keys = used(device.keys, key) if len(event.data) == 16 else device.keys\n"
-REPLY = "    return device, Reply(0, place, bond, None, *outputs)\n"
+REPLY = "    return device, Reply(0, place, bond, None, *outputs, named)\n"
 LOCKED = "        return device, plain_reply(event, 5)\n"
 MODE_OFF = "        return device, plain_reply(event, 6)\n"
 FAILED = "        return count_failure(device), plain_reply(event, 7, tried=len(keys))\n"
@@ -18,7 +18,8 @@ EXCEPTIONS = {
     "a request by a key of a list that is not full": "len(device.keys) < 10",
     "a request by a key that is K on another link": "any(s and s.key == key for s in device.links[: event.link])",
     "a request on a link that holds a K": "device.links[event.link]",
-    "a request that names the public address": "request[2:8] == device.public",
+    "a request that names the public address": "named is Named.PUBLIC",
+    "a request that names the BLE address": "named is Named.BLE",
     "a request with flag 0x40": "request[1] & BONDING",
     "a request with flag 0x10": "request[1] & RETROACTIVE",
     "a request with flag 0x20": "request[1] & NAME_WANTED",
@@ -61,7 +62,7 @@ EDITS = (
     (
         "5 uses the key that would fit",
         LOCKED,
-        "        _, key, _ = first_fitting(device, device.keys, event.data[:16]) or (0, None, b'')\n"
+        "        _, key, *_ = first_fitting(device, device.keys, event.data[:16]) or (0, None)\n"
         + refused(LOCKED, f"device.copy(keys={IF_HELD})"),
     ),
     (

@@ -8,7 +8,7 @@ use lib.Dec.{T, eqb}
 use borrow.Author.Tests.{eq-eqb}
 use Rattle.basics.specs.Answers.{answerNumber}
 use Rattle.basics.specs.declared.Answer.{Answer}
-use Rattle.basics.specs.declared.Answer.the-variants.{Taken, UnknownLink, WrongLength, PasskeyTooLarge, ClockWentBack, LockedOut, NotInPairingMode, NoKeyFits, SaltSpent, LinkIdle, WrongStage, CapabilityRefused, BadBlock, OutputTooShort, ListMalformed, NameRefused}
+use Rattle.basics.specs.declared.Answer.the-variants.{Taken, UnknownLink, WrongLength, PasskeyTooLarge, ClockWentBack, LockedOut, NotInPairingMode, NoKeyFits, SaltSpent, LinkIdle, WrongStage, CapabilityRefused, BadBlock, OutputTooShort, ListMalformed, NameRefused, RotationAwaited}
 
 differ : (n : ℕ) → T (not (eqb n n)) → ⊥
 differ n t = subst (λ (b : Bool). T (not b)) (eq-eqb n n refl) t
@@ -35,3 +35,4 @@ number-taken BadBlock e = absurd (omega arith)
 number-taken OutputTooShort e = absurd (omega arith)
 number-taken ListMalformed e = absurd (omega arith)
 number-taken NameRefused e = absurd (omega arith)
+number-taken RotationAwaited e = absurd (omega arith)

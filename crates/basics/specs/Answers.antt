@@ -6,7 +6,7 @@ use Prim.Native.Nat.{ℕ}
 use lib.Dec.{eqb}
 use Rattle.laws.specs.Choice.{_or_}
 use Rattle.basics.specs.declared.Answer.{Answer}
-use Rattle.basics.specs.declared.Answer.the-variants.{Taken, UnknownLink, WrongLength, PasskeyTooLarge, ClockWentBack, LockedOut, NotInPairingMode, NoKeyFits, SaltSpent, LinkIdle, WrongStage, CapabilityRefused, BadBlock, OutputTooShort, ListMalformed, NameRefused}
+use Rattle.basics.specs.declared.Answer.the-variants.{Taken, UnknownLink, WrongLength, PasskeyTooLarge, ClockWentBack, LockedOut, NotInPairingMode, NoKeyFits, SaltSpent, LinkIdle, WrongStage, CapabilityRefused, BadBlock, OutputTooShort, ListMalformed, NameRefused, RotationAwaited}
 
 abbrev pub answerNumber : Answer → ℕ
 answerNumber Taken = 0
@@ -25,6 +25,7 @@ answerNumber BadBlock = 12
 answerNumber OutputTooShort = 13
 answerNumber ListMalformed = 14
 answerNumber NameRefused = 15
+answerNumber RotationAwaited = 16
 
 -- "taken"
 abbrev pub isTaken : Answer → Bool

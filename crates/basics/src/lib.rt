@@ -38,6 +38,7 @@ pub enum Answer {
     OutputTooShort,
     ListMalformed,
     NameRefused,
+    RotationAwaited,
 }
 
 impl Answer {
@@ -62,6 +63,7 @@ impl Answer {
             Answer::OutputTooShort => 13,
             Answer::ListMalformed => 14,
             Answer::NameRefused => 15,
+            Answer::RotationAwaited => 16,
         }
     }
 

@@ -5,27 +5,31 @@ use mathlib.Core.List.{List, [], _∷_}
 use mathlib.Core.Logic.{inl, inr, ⊎-elim}
 use mathlib.Core.Path.{_≡_, refl, sym, ap, subst, _∙_}
 use Prim.Native.Nat.{ℕ}
-use native.Mathlib.Omega.{arith}
+use lib.Dec.{eqb}
+use borrow.Author.Tests.{eq-eqb}
 use Rattle.account_keys.specs.StoredList.{storedListMax}
 use Rattle.account_keys.specs.declared.AccountKey.{AccountKey}
 use Rattle.basics.proofs.Answers.{number-taken}
 use Rattle.basics.specs.Answers.{answerNumber}
 use Rattle.basics.specs.Output.{reportOf, placed}
-use Rattle.packed.proofs.ReadsBack.{packed-reads-back}
+use Rattle.packed.proofs.ReadsBack.{flag-back, packed-reads-back, any-bytes}
 use Rattle.capi.specs.Calls.{served, lentBack, returned, noReport, told, writtenTo}
-use Rattle.capi.specs.Demands.{CallIsStep, afterCalls, CallsAreSteps, calls, CallsOnlyTakeAway, AdvertisesAfresh, CallsAdvertiseAfresh}
+use Rattle.capi.specs.Demands.{CallIsStep, afterCalls, CallsAreSteps, calls, CallsOnlyTakeAway, AdvertisesAfresh, CallsAdvertiseAfresh, CallsAcceptNoneWhileAwaited}
 use Rattle.packed.specs.Packed.{packed, packedReply, packedOutcome, packedReport, isDevice, deviceOf}
 use Rattle.packed.specs.declared.FpDevice.{FpDevice}
 use Rattle.packed.specs.declared.FpOutcome.{FpOutcome}
 use Rattle.packed.specs.declared.FpReply.{FpReply}
+use Rattle.laws.proofs.Choice.{true-is}
 use Rattle.laws.proofs.Padded.{take-padded}
 use Rattle.laws.specs.Choice.{if_then_else_}
 use Rattle.names.specs.Name.{textOf}
 use Rattle.provider.proofs.Theorems.Gap.{gap-only-takes-away}
 use Rattle.provider.proofs.Theorems.KeptFilter.{filter-kept}
+use Rattle.provider.proofs.Theorems.Rotation.{none-while-awaited}
 use Rattle.provider.proofs.Theorems.Validity.{stays-valid, starts-valid, after-valid}
 use Rattle.provider.specs.Demands.Gap.{Marked, done, same, added, rules, Lists, Stores, Alike, Lost, Compared, Parting, TwoRuns, QuietUntilRequest, AfterMarkers}
 use Rattle.provider.specs.Demands.KeptFilter.{payloadAfresh}
+use Rattle.provider.specs.Demands.Rotation.{NoneUntilLifted}
 use Rattle.provider.specs.Demands.Validity.{Valid, written}
 use Rattle.provider.specs.Rules.Control.{advertised}
 use Rattle.provider.specs.Rules.Event.{Event, Overflow, PowerOn, step, next, answerOf, after}
@@ -66,16 +70,24 @@ unfolding packed
 seen-written d = take-padded storedListMax 0 (written d)
 
 -- and the name in it the device's
-seen-named : (d : Device) → calls .named (packed d) ≡ textOf (d .name)
+seen-name : (d : Device) → calls .name (packed d) ≡ textOf (d .name)
 unfolding packed
-seen-named d = refl
+seen-name d = refl
+
+-- and a rotation is awaited as in the device
+seen-waits : (d : Device) → calls .waits (packed d) ≡ d .wait .on
+unfolding packed
+seen-waits d = flag-back (d .wait .on)
 
 module _ (d : Device) (v : Valid d) (e : Event) where
   seen-written-next : calls .written (served (packed d) e .next) ≡ written (next d e)
   seen-written-next = ap (λ (f : FpDevice). calls .written f) (seen-next d v e) ∙ seen-written (next d e)
 
-  seen-named-next : calls .named (served (packed d) e .next) ≡ textOf (next d e .name)
-  seen-named-next = ap (λ (f : FpDevice). calls .named f) (seen-next d v e) ∙ seen-named (next d e)
+  seen-name-next : calls .name (served (packed d) e .next) ≡ textOf (next d e .name)
+  seen-name-next = ap (λ (f : FpDevice). calls .name f) (seen-next d v e) ∙ seen-name (next d e)
+
+  seen-waits-next : calls .waits (served (packed d) e .next) ≡ next d e .wait .on
+  seen-waits-next = ap (λ (f : FpDevice). calls .waits f) (seen-next d v e) ∙ seen-waits (next d e)
 
   -- both store the same keys
   to-calls : (k : AccountKey) → Stores rules d e k → Stores calls (packed d) e k
@@ -125,13 +137,14 @@ two-runs (added m) d c v w r =
     (two-runs m d (next c Overflow) v (stays-valid c Overflow w) r)
 two-runs (same e m) d c v w r = (
   compared d c v w e (r .0),
+  seen-waits-next d v e ∙ r .1 ∙ sym (seen-waits-next c w e),
   ⊎-elim (λ p. inl (parting d c v w e p)) (λ q. inr (
     seen-written-next d v e ∙ q .0 ∙ sym (seen-written-next c w e),
-    seen-named-next d v e ∙ q .1 ∙ sym (seen-named-next c w e),
+    seen-name-next d v e ∙ q .1 ∙ sym (seen-name-next c w e),
     subst (λ (f : FpDevice). TwoRuns calls f (served (packed c) e .next) m) (sym (seen-next d v e))
         (subst (λ (f : FpDevice). TwoRuns calls (packed (next d e)) f m) (sym (seen-next c w e))
         (two-runs m (next d e) (next c e) (stays-valid d e v) (stays-valid c e w) (q .2))),
-  )) (r .1),
+  )) (r .2),
 )
 
 quiet-until-request : (l : ℕ) (es : List Event) (d : Device) → Valid d → QuietUntilRequest rules l d es
@@ -155,18 +168,23 @@ after-markers (e ∷ es) d v a = (
 
 -- ---- from a taken power-on
 
+-- what an answer says, and the one to bytes that are no device does not, comes of the device that the bytes are
+of-device : (f : FpDevice) (e : Event) (says : FpReply → Bool) → says (returned f .reply) ≡ false
+    → says (served f e .reply) ≡ true → served f e ≡ packedOutcome (step (deviceOf f) e .gives)
+unfolding served
+of-device f e says n = go (isDevice f)
+  where
+    go : (b : Bool) → says ((if b then packedOutcome (step (deviceOf f) e .gives) else returned f) .reply) ≡ true
+        → (if b then packedOutcome (step (deviceOf f) e .gives) else returned f) ≡ packedOutcome (step (deviceOf f) e .gives)
+    go true h = refl
+    go false h = absurd (true-is (sym n ∙ h))
+
 -- only bytes that are a device get 0
 taken-is-device : (f : FpDevice) (e : Event) → served f e .reply .answer ≡ 0
     → (served f e .next ≡ packed (next (deviceOf f) e)) × (answerNumber (answerOf (deviceOf f) e) ≡ 0)
-unfolding served
-taken-is-device f e = go (isDevice f)
-  where
-    go : (b : Bool)
-        → (if b then packedOutcome (step (deviceOf f) e .gives) else returned f) .reply .answer ≡ 0
-        → ((if b then packedOutcome (step (deviceOf f) e .gives) else returned f) .next ≡ packed (next (deviceOf f) e))
-        × (answerNumber (answerOf (deviceOf f) e) ≡ 0)
-    go true h = (refl, h)
-    go false h = absurd (omega (arith, h))
+taken-is-device f e h =
+    let s = of-device f e (λ r. eqb (r .answer) 0) refl (eq-eqb (served f e .reply .answer) 0 h) in
+    (ap (λ (o : FpOutcome). o .next) s, sym (ap (λ (o : FpOutcome). o .reply .answer) s) ∙ h)
 
 pub calls-only-take-away : CallsOnlyTakeAway
 calls-only-take-away f stored name start h es fs m =
@@ -177,6 +195,26 @@ calls-only-take-away f stored name start h es fs m =
     let v : Valid s = starts-valid d stored name start taken in
     let r = gap-only-takes-away d stored name start taken es fs m in
     rw (t .0) (two-runs m s s v v (r .0), after-markers es s v (r .1), after-markers fs s v (r .2))
+
+-- ---- the wait for a rotation
+
+none-until-lifted : (es : List Event) (d : Device) → Valid d → NoneUntilLifted rules d es
+    → NoneUntilLifted calls (packed d) es
+none-until-lifted [] d v q = tt
+none-until-lifted (e ∷ es) d v q = (
+  λ l a. q .0 l (a .0, sym (seen-number d v e) ∙ a .1),
+  ⊎-elim (λ x. inl (x .0, seen-number d v e ∙ x .1)) (λ r. inr
+      (subst (λ (f : FpDevice). NoneUntilLifted calls f es) (sym (seen-next d v e))
+      (none-until-lifted es (next d e) (stays-valid d e v) r))) (q .1),
+)
+
+pub calls-accept-none-while-awaited : CallsAcceptNoneWhileAwaited
+calls-accept-none-while-awaited f e h es =
+    let s = of-device f e (λ r. r .rotate) refl h in
+    let d = deviceOf f in
+    let asked = sym (ap (λ (o : FpOutcome). o .reply .rotate) s) ∙ h in
+    subst (λ (g : FpDevice). NoneUntilLifted calls g es) (sym (ap (λ (o : FpOutcome). o .next) s))
+    (none-until-lifted es (next d e) (stays-valid d e (any-bytes f)) (none-while-awaited d e asked es))
 
 -- ---- the payload
 

@@ -1,5 +1,6 @@
 -- What a call from C gives back: the step of provider's rules on the device handed in, or a refusal where that is none.
 -- Assumes nothing.
+use mathlib.Core.Bool.{false}
 use mathlib.Core.List.{List}
 use Prim.Native.Nat.{ℕ}
 use lib.Dec.{eqb}
@@ -25,8 +26,16 @@ abbrev pub returned : FpDevice → FpOutcome
 returned f =
     record {
       next = f;
-      reply = record { answer = notADevice; tried = 0; confirm = 0; packet = 0; bond = noBond };
-      reserved = replicate 5 0;
+      reply = record {
+        answer = notADevice;
+        tried = 0;
+        confirm = 0;
+        packet = 0;
+        named = 0;
+        rotate = false;
+        bond = noBond;
+      };
+      reserved = replicate 3 0;
     }
 
 -- an event: the next device and the answer

@@ -3,6 +3,7 @@
 use mathlib.Core.List.{List, [], _∷_}
 use mathlib.Core.Path.{_≡_}
 use Prim.Native.Nat.{ℕ}
+use lib.Dec.{eqb}
 use lib.ListN.{take}
 use Rattle.advertising.specs.declared.Prompt.{Prompt}
 use Rattle.capi.specs.Calls.{served, lentBack, told, writtenTo}
@@ -11,6 +12,7 @@ use Rattle.packed.specs.declared.FpDevice.{FpDevice}
 use Rattle.packed.specs.declared.FpReply.{FpReply}
 use Rattle.provider.specs.Demands.Gap.{Observed, OnlyTakesAway}
 use Rattle.provider.specs.Demands.KeptFilter.{payloadAfresh}
+use Rattle.provider.specs.Demands.Rotation.{NoneWhileAwaited}
 use Rattle.provider.specs.Demands.Validity.{Valid}
 use Rattle.provider.specs.Rules.Control.{advertised}
 use Rattle.provider.specs.Rules.Event.{Event, PowerOn, step, after}
@@ -32,7 +34,8 @@ afterCalls f (e ∷ es) = afterCalls (served f e .next) es
 abbrev pub CallsAreSteps : Type 0
 CallsAreSteps = (d : Device) (es : List Event) → Valid d → afterCalls (packed d) es ≡ packed (after d es)
 
--- what firmware sees of calls: `next.stored` is the list written out, and `next.name` the name
+-- what firmware sees of calls: `next.stored` is the list written out, `next.name` the name, and `awaited` and `rotate` tell of the
+-- wait for a rotation
 abbrev pub calls : Observed FpDevice FpReply
 calls =
     record {
@@ -41,7 +44,9 @@ calls =
       reply = λ f e. served f e .reply;
       leaves = lentBack;
       written = λ f. take (f .stored .length) (f .stored .bytes);
-      named = λ f. take (f .name .length) (f .name .bytes);
+      name = λ f. take (f .name .length) (f .name .bytes);
+      waits = λ f. eqb (f .awaited) 1;
+      rotate = λ f e. served f e .reply .rotate;
     }
 
 -- demand 3 of calls, from any bytes on: both runs start from the device that the same taken power-on gave
@@ -62,3 +67,8 @@ CallsAdvertiseAfresh =
     (f : FpDevice) (stored name : List ℕ) (start : Start) → served f (PowerOn stored name start) .reply .answer ≡ 0
     → (es : List Event) (prompt : Prompt)
     → AdvertisesAfresh (afterCalls (served f (PowerOn stored name start) .next) es) prompt
+
+-- document 02 (vii) of calls, from any bytes on: after an answer that says `rotate`, no key-based write gets 0 up to the rotation,
+-- power-on or factory reset that does
+abbrev pub CallsAcceptNoneWhileAwaited : Type 0
+CallsAcceptNoneWhileAwaited = NoneWhileAwaited calls

@@ -26,9 +26,11 @@ fn returned(device: FpDevice) -> FpOutcome
             tried: 0,
             confirm: 0,
             packet: 0,
+            named: 0,
+            rotate: false,
             bond: key_based::no_bond(),
         },
-        reserved: [0u8; 5],
+        reserved: [0u8; 3],
     }
 }
 

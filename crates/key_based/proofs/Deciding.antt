@@ -13,9 +13,10 @@ use Rattle.aes128.proofs.Sizes.{length-cipher, length-invCipher}
 use Rattle.basics.specs.Answers.{isTaken}
 use Rattle.basics.specs.declared.Address.{Address}
 use Rattle.basics.specs.declared.Answer.{Answer}
-use Rattle.basics.specs.declared.Answer.the-variants.{LockedOut, NotInPairingMode, NoKeyFits, SaltSpent}
+use Rattle.basics.specs.declared.Answer.the-variants.{LockedOut, NotInPairingMode, NoKeyFits, SaltSpent, RotationAwaited}
 use Rattle.key_based.specs.Decision.{refused, accepted, saltKnown, settled, triedKeys, unwanted, usesKey, decided, respondedTo, outputsOf}
 use Rattle.account_keys.specs.Keys.{held}
+use Rattle.key_based.specs.Named.{fits}
 use Rattle.key_based.specs.Request.{Found, found, nothing, candidates, flagged, saltAt, requestSalt, response}
 use Rattle.key_based.specs.Search.{tried, handedOver}
 use Rattle.request_guard.proofs.Laws.{padded-proper}
@@ -31,33 +32,40 @@ use Rattle.sessions.specs.declared.Session.{Session}
 
 -- the three ways of what the search hands over
 module _ (g : Guard) (s : Session) (t : ℕ) (uses : Bool) (r : Search) where
-  pub none-fits : r .found ≡ false → settled g s t uses r ≡ refused (failedAt t g) s NoKeyFits (r .tried)
+  pub none-fits : fits (r .named) ≡ false → settled g s t uses r ≡ refused (failedAt t g) s NoKeyFits (r .tried)
   unfolding settled
   none-fits e = rw e
 
-  pub salt-spent : r .found ≡ true → saltKnown g r ≡ true → settled g s t uses r ≡ refused g s SaltSpent (r .tried)
+  pub salt-spent : fits (r .named) ≡ true → saltKnown g r ≡ true → settled g s t uses r ≡ refused g s SaltSpent (r .tried)
   unfolding settled
   salt-spent e f = rw (e, f)
 
-  pub request-accepted : r .found ≡ true → saltKnown g r ≡ false → settled g s t uses r ≡ accepted g t uses r
+  pub request-accepted : fits (r .named) ≡ true → saltKnown g r ≡ false → settled g s t uses r ≡ accepted g t uses r
   unfolding settled
   request-accepted e f = rw (e, f)
 
--- answers 5 and 6, and what comes then
+-- answers 5, 16 and 6, and what comes then
 module _ (c : Context) (s : Session) (t : ℕ) (element : Element) (request : List ℕ) where
   pub locked-out : guards.locked (c .guard) ≡ true → decided c s t element request ≡ refused (c .guard) s LockedOut 0
   unfolding decided
   locked-out e = rw e
 
-  pub not-in-pairing-mode : guards.locked (c .guard) ≡ false → unwanted c request ≡ true
-      → decided c s t element request ≡ refused (c .guard) s NotInPairingMode 0
-  unfolding decided
-  not-in-pairing-mode e f = rw (e, f)
+  module _ (e : guards.locked (c .guard) ≡ false) where
+    pub rotation-awaited : c .wait .on ≡ true
+        → decided c s t element request ≡ refused (c .guard) s RotationAwaited 0
+    unfolding decided
+    rotation-awaited w = rw (e, w)
 
-  pub keys-tried : guards.locked (c .guard) ≡ false → unwanted c request ≡ false
-      → decided c s t element request ≡ settled (c .guard) s t (usesKey request) (triedKeys c element request)
-  unfolding decided
-  keys-tried e f = rw (e, f)
+    module _ (w : c .wait .on ≡ false) where
+      pub not-in-pairing-mode : unwanted c request ≡ true
+          → decided c s t element request ≡ refused (c .guard) s NotInPairingMode 0
+      unfolding decided
+      not-in-pairing-mode f = rw (e, w, f)
+
+      pub keys-tried : unwanted c request ≡ false
+          → decided c s t element request ≡ settled (c .guard) s t (usesKey request) (triedKeys c element request)
+      unfolding decided
+      keys-tried f = rw (e, w, f)
 
 pub not-locked : (g : Guard) → Valid g → guards.locked g ≡ false → g .failures .count < 10
 not-locked g v e =
@@ -87,52 +95,58 @@ salt-proper plain h = go (flagged 0x50 (getD plain 1 0))
     go false = let n : length (drop 8 plain) ≡ 8 = simp length-drop (omega arith) in padded-proper (drop 8 plain) (rw n)
 
 -- what the search hands over is a block of 16 bytes
-handed-over-long : (request : List ℕ) (f : Found) → length (handedOver request f .plain) ≡ 16
-handed-over-long request (found n key) = length-invCipher key (take 16 request)
-handed-over-long request (nothing n) = refl
+handed-over-long : (ble public : Address) (request : List ℕ) (f : Found) → length (handedOver ble public request f .plain) ≡ 16
+handed-over-long ble public request (found n key) = length-invCipher key (take 16 request)
+handed-over-long ble public request (nothing n) = refl
 
 tried-proper : (ble public : Address) (keys : List (List ℕ)) (request : List ℕ)
-    → Proper (requestSalt (handedOver request (tried ble public request 0 keys) .plain))
+    → Proper (requestSalt (handedOver ble public request (tried ble public request 0 keys) .plain))
 tried-proper ble public keys request =
-    salt-proper (handedOver request (tried ble public request 0 keys) .plain)
-    (handed-over-long request (tried ble public request 0 keys))
+    salt-proper (handedOver ble public request (tried ble public request 0 keys) .plain)
+    (handed-over-long ble public request (tried ble public request 0 keys))
 
 -- ---- the ways that a decision may go, from what the search hands over
 
-pub data Way (g : Guard) (s : Session) (t : ℕ) (uses : Bool) (r : Search) : Decision → Type 0 where
-  locked : Way g s t uses r (refused g s LockedOut 0)
-  unasked : Way g s t uses r (refused g s NotInPairingMode 0)
-  no-fit : guards.locked g ≡ false → Way g s t uses r (refused (failedAt t g) s NoKeyFits (r .tried))
-  spent : Way g s t uses r (refused g s SaltSpent (r .tried))
-  taken : r .found ≡ true → Proper (requestSalt (r .plain)) → Way g s t uses r (accepted g t uses r)
+pub data Way (c : Context) (s : Session) (t : ℕ) (uses : Bool) (r : Search) : Decision → Type 0 where
+  locked : Way c s t uses r (refused (c .guard) s LockedOut 0)
+  awaited : Way c s t uses r (refused (c .guard) s RotationAwaited 0)
+  unasked : Way c s t uses r (refused (c .guard) s NotInPairingMode 0)
+  no-fit : guards.locked (c .guard) ≡ false → c .wait .on ≡ false
+      → Way c s t uses r (refused (failedAt t (c .guard)) s NoKeyFits (r .tried))
+  spent : Way c s t uses r (refused (c .guard) s SaltSpent (r .tried))
+  taken : fits (r .named) ≡ true → Proper (requestSalt (r .plain)) → c .wait .on ≡ false
+      → Way c s t uses r (accepted (c .guard) t uses r)
 
 pub decided-way : (c : Context) (s : Session) (t : ℕ) (element : Element) (request : List ℕ)
-    → Way (c .guard) s t (usesKey request) (triedKeys c element request) (decided c s t element request)
+    → Way c s t (usesKey request) (triedKeys c element request) (decided c s t element request)
 unfolding decided settled
 decided-way c s t element request =
-    go (guards.locked (c .guard)) (unwanted c request) (triedKeys c element request .found)
-    (saltKnown (c .guard) (triedKeys c element request)) refl refl
+    go (guards.locked (c .guard)) (c .wait .on) (unwanted c request) (fits (triedKeys c element request .named))
+    (saltKnown (c .guard) (triedKeys c element request)) refl refl refl
   where
-    go : (x y z w : Bool) → guards.locked (c .guard) ≡ x → triedKeys c element request .found ≡ z
-        → Way (c .guard) s t (usesKey request) (triedKeys c element request)
+    go : (x v y z w : Bool) → guards.locked (c .guard) ≡ x → c .wait .on ≡ v → fits (triedKeys c element request .named) ≡ z
+        → Way c s t (usesKey request) (triedKeys c element request)
         (if x then refused (c .guard) s LockedOut 0 else
+        if v then refused (c .guard) s RotationAwaited 0 else
         if y then refused (c .guard) s NotInPairingMode 0 else
         if not z then refused (failedAt t (c .guard)) s NoKeyFits (triedKeys c element request .tried) else
         if w then refused (c .guard) s SaltSpent (triedKeys c element request .tried) else
         accepted (c .guard) t (usesKey request) (triedKeys c element request))
-    go true y z w e f = locked
-    go false true z w e f = unasked
-    go false false false w e f = no-fit e
-    go false false true true e f = spent
-    go false false true false e f = taken f
-        (tried-proper (c .ble) (c .public) (candidates (held (c .keys)) element request) request)
+    go true v y z w e a f = locked
+    go false true y z w e a f = awaited
+    go false false true z w e a f = unasked
+    go false false false false w e a f = no-fit e a
+    go false false false true true e a f = spent
+    go false false false true false e a f = taken f
+        (tried-proper (c .ble) (c .public) (candidates (held (c .keys)) element request) request) a
 
 -- a refusal leaves both lent outputs
-module _ (c : Context) (salt nonce out packet : List ℕ) {g : Guard} {s : Session} {t : ℕ} {uses : Bool} {f : Search} where
-  pub outputs-kept : {r : Decision} → Way g s t uses f r → isTaken (r .answer) ≡ false
+module _ (c : Context) (salt nonce out packet : List ℕ) {s : Session} {t : ℕ} {uses : Bool} {f : Search} where
+  pub outputs-kept : {r : Decision} → Way c s t uses f r → isTaken (r .answer) ≡ false
       → outputsOf c salt nonce out packet r ≡ out ∷ packet ∷ []
   outputs-kept locked h = refl
+  outputs-kept awaited h = refl
   outputs-kept unasked h = refl
-  outputs-kept (no-fit e) h = refl
+  outputs-kept (no-fit e a) h = refl
   outputs-kept spent h = refl
-  outputs-kept (taken f p) h = absurd (true-is (sym h))
+  outputs-kept (taken f p a) h = absurd (true-is (sym h))

@@ -9,7 +9,8 @@ use native.Mathlib.Omega.{arith}
 use lib.ListN.{length, getD, length-map, List·getD-map}
 use Rattle.laws.specs.Choice.{if_then_else_}
 use Rattle.key_based.specs.Promises.{NoneOf, Tells, FirstThatFits}
-use Rattle.key_based.specs.Request.{candidates, hasPublicKey, fitting, opened, Found, found, nothing, search}
+use Rattle.key_based.specs.Named.{fits, fitting}
+use Rattle.key_based.specs.Request.{candidates, hasPublicKey, opened, Found, found, nothing, search}
 use Rattle.key_based.specs.Search.{tried, handedOver, searched}
 use Rattle.key_based.specs.declared.Element.{Element}
 use Rattle.account_keys.specs.Keys.{zeroKey}
@@ -69,7 +70,7 @@ module _ (ble public : Address) (keys : List AccountKey) (element : Element) (re
     pub within : n - 1 < length keys
     pub there : getD keys (n - 1) zeroKey .bytes ≡ key
 
-  pub told-key : hasPublicKey request ≡ false → searched ble public keys element request .found ≡ true
+  pub told-key : hasPublicKey request ≡ false → fits (searched ble public keys element request .named) ≡ true
       → AtPlace (searched ble public keys element request .tried) (searched ble public keys element request .key)
   unfolding candidates
   told-key e = rw e
@@ -78,8 +79,8 @@ module _ (ble public : Address) (keys : List AccountKey) (element : Element) (re
       owners : List (List ℕ)
       owners = map (λ k. k .bytes) keys
 
-      go : (x : Found) → Tells (λ k. fitting ble public (opened k request)) owners x → handedOver request x .found ≡ true
-          → AtPlace (handedOver request x .tried) (handedOver request x .key)
+      go : (x : Found) → Tells (λ k. fitting ble public (opened k request)) owners x → fits (handedOver ble public request x .named) ≡ true
+          → AtPlace (handedOver ble public request x .tried) (handedOver ble public request x .key)
       go (found n key) t f =
           let small : n - 1 < length keys = omega (arith, t .0, t .1, length-map keys (λ (k : AccountKey). k .bytes)) in
           record {

@@ -21,11 +21,14 @@ use Rattle.account_keys.specs.declared.AccountKeys.{AccountKeys}
 use Rattle.aes128.specs.Cipher.{cipher, invCipher}
 use Rattle.basics.specs.Bytes.{same, sixteenAt}
 use Rattle.basics.specs.declared.Address.{Address}
-use Rattle.key_based.specs.Request.{sized, candidates, opened, namedAddress, fitting, Found, found, nothing, requestSalt, noBond, bondAsked, response}
+use Rattle.key_based.specs.Named.{addressBytes, addressNamed, fits, fitting}
+use Rattle.key_based.specs.Request.{sized, candidates, opened, Found, found, nothing, requestSalt, noBond, bondAsked, response}
 use Rattle.key_based.specs.Search.{tried, noneFits, handedOver}
 use Rattle.key_based.specs.declared.Bond.{Bond}
 use Rattle.key_based.specs.declared.Element.{Element}
 use Rattle.key_based.specs.declared.Search.{Search}
+use Rattle.key_based.specs.declared.named.Named.{Named}
+use Rattle.key_based.specs.declared.named.Named.the-variants.{Neither, Ble, Public}
 use Rattle.request_guard.specs.declared.Salt.{Salt}
 use Rattle.sha256.specs.Hash.{sha256}
 use Rattle.key_based.specs.Request as spec
@@ -38,21 +41,26 @@ absentKey = record { bytes = [] }
 abbrev blocks : List AccountKey → List (List ℕ)
 blocks l = map (λ k. k .bytes) l
 
--- ---- the test of a block
+-- ---- the address that a block names
 
 module _ (ble public : Address) (p : List ℕ) where
-  pub other-kind : (getD p 0 0 ≡ 0 → ⊥) → false ≡ fitting ble public p
-  unfolding fitting
+  pub other-kind : (getD p 0 0 ≡ 0 → ⊥) → Neither ≡ addressNamed ble public p
+  unfolding addressNamed
   other-kind h = rw (ne-eqb (getD p 0 0) 0 h)
 
-  pub names-ble : getD p 0 0 ≡ 0 → same (namedAddress p) (ble .bytes) ≡ true → true ≡ fitting ble public p
-  unfolding fitting
-  names-ble h e = rw (eq-eqb (getD p 0 0) 0 h, e)
+  module _ (h : getD p 0 0 ≡ 0) where
+    pub names-ble : same (addressBytes p) (ble .bytes) ≡ true → Ble ≡ addressNamed ble public p
+    unfolding addressNamed
+    names-ble e = rw (eq-eqb (getD p 0 0) 0 h, e)
 
-  pub names-public : getD p 0 0 ≡ 0 → same (namedAddress p) (ble .bytes) ≡ false
-      → same (namedAddress p) (public .bytes) ≡ fitting ble public p
-  unfolding fitting
-  names-public h e = rw (eq-eqb (getD p 0 0) 0 h, e)
+    module _ (e : same (addressBytes p) (ble .bytes) ≡ false) where
+      pub names-public : same (addressBytes p) (public .bytes) ≡ true → Public ≡ addressNamed ble public p
+      unfolding addressNamed
+      names-public f = rw (eq-eqb (getD p 0 0) 0 h, e, f)
+
+      pub names-neither : same (addressBytes p) (public .bytes) ≡ false → Neither ≡ addressNamed ble public p
+      unfolding addressNamed
+      names-neither f = rw (eq-eqb (getD p 0 0) 0 h, e, f)
 
 -- ---- the search, key by key
 
@@ -77,42 +85,45 @@ module _ (ble public : Address) (r : List ℕ) where
     unfolding spec.search
     first-passed ks e = rw e
 
-    -- the two ways of one key alone, where p is the block as it opens it and t the test of p
-    pub one-fits : {p : List ℕ} {t : Bool} → p ≡ opened k r → t ≡ fitting ble public p → t ≡ true
-        → _≡_ {A = Search} (record { found = true; tried = n + 1; key = k; plain = p })
-        (handedOver r (tried ble public r n (k ∷ [])))
-    one-fits q f e =
-        (λ i. record { found = true; tried = n + 1; key = k; plain = q i })
-        ∙ sym (ap (handedOver r) (first-fits [] (ap (fitting ble public) (sym q) ∙ sym f ∙ e)))
-
-    passed : fitting ble public (opened k r) ≡ false → handedOver r (tried ble public r n (k ∷ [])) ≡ noneFits
+    passed : fitting ble public (opened k r) ≡ false → handedOver ble public r (tried ble public r n (k ∷ [])) ≡ noneFits
         (n + 1)
-    passed e = ap (handedOver r) (first-passed [] e ∙ none-left (n + 1))
+    passed e = ap (handedOver ble public r) (first-passed [] e ∙ none-left (n + 1))
 
-    pub one-passed : {p : List ℕ} {t : Bool} → p ≡ opened k r → t ≡ fitting ble public p → t ≡ false
-        → noneFits (n + 1) ≡ handedOver r (tried ble public r n (k ∷ []))
-    one-passed q f e = sym (passed (ap (fitting ble public) (sym q) ∙ sym f ∙ e))
+    -- the two ways of one key alone, where p is the block as it opens it and m the address that this names
+    module _ {p : List ℕ} {m : Named} (q : p ≡ opened k r) (f : m ≡ addressNamed ble public p) where
+      same-named : m ≡ addressNamed ble public (opened k r)
+      same-named = f ∙ ap (addressNamed ble public) q
+
+      pub one-fits : fits m ≡ true
+          → _≡_ {A = Search} (record { named = m; tried = n + 1; key = k; plain = p })
+          (handedOver ble public r (tried ble public r n (k ∷ [])))
+      one-fits e =
+          (λ i. record { named = same-named i; tried = n + 1; key = k; plain = q i })
+          ∙ sym (ap (handedOver ble public r) (first-fits [] (ap fits (sym same-named) ∙ e)))
+
+      pub one-passed : fits m ≡ false → noneFits (n + 1) ≡ handedOver ble public r (tried ble public r n (k ∷ []))
+      one-passed e = sym (passed (ap fits (sym same-named) ∙ e))
 
     -- if one key alone fits, those after it are not tried
-    stops : (ks : List (List ℕ)) → handedOver r (tried ble public r n (k ∷ [])) .found ≡ true
+    stops : (ks : List (List ℕ)) → fits (handedOver ble public r (tried ble public r n (k ∷ [])) .named) ≡ true
         → tried ble public r n (k ∷ []) ≡ tried ble public r n (k ∷ ks)
     stops ks e = go (fitting ble public (opened k r)) refl
       where
         go : (b : Bool) → fitting ble public (opened k r) ≡ b
             → tried ble public r n (k ∷ []) ≡ tried ble public r n (k ∷ ks)
         go true p = first-fits [] p ∙ sym (first-fits ks p)
-        go false p = absurd (true-is (sym (ap (λ (s : Search). s .found) (passed p)) ∙ e))
+        go false p = absurd (true-is (sym (ap (λ (s : Search). fits (s .named)) (passed p)) ∙ e))
 
     -- if not, the search goes on behind it, with one key more tried
-    goes-on : (ks : List (List ℕ)) → handedOver r (tried ble public r n (k ∷ [])) .found ≡ false
-        → (handedOver r (tried ble public r n (k ∷ [])) ≡ noneFits (n + 1))
+    goes-on : (ks : List (List ℕ)) → fits (handedOver ble public r (tried ble public r n (k ∷ [])) .named) ≡ false
+        → (handedOver ble public r (tried ble public r n (k ∷ [])) ≡ noneFits (n + 1))
         × (tried ble public r (n + 1) ks ≡ tried ble public r n (k ∷ ks))
     goes-on ks e = go (fitting ble public (opened k r)) refl
       where
         go : (b : Bool) → fitting ble public (opened k r) ≡ b
-            → (handedOver r (tried ble public r n (k ∷ [])) ≡ noneFits (n + 1))
+            → (handedOver ble public r (tried ble public r n (k ∷ [])) ≡ noneFits (n + 1))
             × (tried ble public r (n + 1) ks ≡ tried ble public r n (k ∷ ks))
-        go true p = absurd (true-is (sym e ∙ ap (λ (f : Found). handedOver r f .found) (first-fits [] p)))
+        go true p = absurd (true-is (sym e ∙ ap (λ (f : Found). fits (handedOver ble public r f .named)) (first-fits [] p) ∙ p))
         go false p = (passed p, sym (first-passed ks p))
 
   -- i of the account keys are passed: the search through the rest is the whole search
@@ -133,26 +144,26 @@ module _ (ble public : Address) (r : List ℕ) where
 
     -- it fits
     pub key-fits : {a : Search} → i < ks .count
-        → a ≡ handedOver r (tried ble public r i (getD (ks .keys) i absentKey .bytes ∷ [])) → a .found ≡ true
-        → a ≡ handedOver r (tried ble public r 0 (blocks (held ks)))
+        → a ≡ handedOver ble public r (tried ble public r i (getD (ks .keys) i absentKey .bytes ∷ [])) → fits (a .named) ≡ true
+        → a ≡ handedOver ble public r (tried ble public r 0 (blocks (held ks)))
     key-fits h e f =
-        e ∙ ap (handedOver r) (stops i next (blocks (drop (i + 1) (held ks)))
-        (sym (ap (λ (s : Search). s .found) e) ∙ f) ∙ next-key h)
+        e ∙ ap (handedOver ble public r) (stops i next (blocks (drop (i + 1) (held ks)))
+        (sym (ap (λ (s : Search). fits (s .named)) e) ∙ f) ∙ next-key h)
 
     -- it does not
     pub key-passed : {a : Search} → i < ks .count
-        → a ≡ handedOver r (tried ble public r i (getD (ks .keys) i absentKey .bytes ∷ [])) → a .found ≡ false
+        → a ≡ handedOver ble public r (tried ble public r i (getD (ks .keys) i absentKey .bytes ∷ [])) → fits (a .named) ≡ false
         → (a ≡ noneFits (i + 1)) × Passed ks (i + 1)
     key-passed h e f =
         let on = goes-on i next (blocks (drop (i + 1) (held ks)))
-        (sym (ap (λ (s : Search). s .found) e) ∙ f) in
+        (sym (ap (λ (s : Search). fits (s .named)) e) ∙ f) in
         (e ∙ on .0, on .1 ∙ next-key h)
 
     -- there is none
     pub all-passed : {a : Search} → ks .count ≤ i → a ≡ noneFits i
-        → a ≡ handedOver r (tried ble public r 0 (blocks (held ks)))
+        → a ≡ handedOver ble public r (tried ble public r 0 (blocks (held ks)))
     all-passed h e =
-        e ∙ ap (handedOver r) (sym (none-left i) ∙ rw (drop-take-all (ks .keys) (ks .count) i h) at p)
+        e ∙ ap (handedOver ble public r) (sym (none-left i) ∙ rw (drop-take-all (ks .keys) (ks .count) i h) at p)
 
 -- ---- the candidates of a request
 
@@ -165,35 +176,35 @@ sized-long r e = go (eqb (length r) 16) refl
 
 module _ (ble public : Address) (r : List ℕ) where
   -- a request is searched by its first 16 bytes
-  by-block : {b : List ℕ} → b ≡ take 16 r → (ks : List (List ℕ)) → handedOver b (tried ble public b 0 ks)
-      ≡ handedOver r (tried ble public r 0 ks)
+  by-block : {b : List ℕ} → b ≡ take 16 r → (ks : List (List ℕ)) → handedOver ble public b (tried ble public b 0 ks)
+      ≡ handedOver ble public r (tried ble public r 0 ks)
   by-block {b} q ks =
-      handed (tried ble public b 0 ks) ∙ (λ i. handedOver r (spec.search
+      handed (tried ble public b 0 ks) ∙ (λ i. handedOver ble public r (spec.search
       (λ k. fitting ble public (again k i)) 0 ks))
     where
       again : (k : List ℕ) → opened k b ≡ opened k r
       again k = rw (q, take-take 16 16 r (le-refl 16))
 
-      handed : (f : Found) → handedOver b f ≡ handedOver r f
-      handed (found m k) = λ i. record { found = true; tried = m; key = k; plain = again k i }
+      handed : (f : Found) → handedOver ble public b f ≡ handedOver ble public r f
+      handed (found m k) = λ i. record { named = addressNamed ble public (again k i); tried = m; key = k; plain = again k i }
       handed (nothing m) = refl
 
   -- the three ways of the definition
   module _ (l : List AccountKey) (element : Element) {s : Search} where
     pub from-owners : {b : List ℕ} → (length r ≡ 80 → ⊥) → b ≡ take 16 r
-        → s ≡ handedOver b (tried ble public b 0 (blocks l))
-        → s ≡ handedOver r (tried ble public r 0 (candidates l element r))
+        → s ≡ handedOver ble public b (tried ble public b 0 (blocks l))
+        → s ≡ handedOver ble public r (tried ble public r 0 (candidates l element r))
     unfolding candidates
     from-owners h q e = e ∙ by-block q (blocks l) ∙ rw (ne-eqb (length r) 80 h)
 
     pub rejected : length r ≡ 80 → element .accepted ≡ false → s ≡ noneFits 0
-        → s ≡ handedOver r (tried ble public r 0 (candidates l element r))
+        → s ≡ handedOver ble public r (tried ble public r 0 (candidates l element r))
     unfolding candidates
-    rejected h a e = e ∙ rw (eq-eqb (length r) 80 h, a) (ap (handedOver r) (sym (none-left ble public r 0)))
+    rejected h a e = e ∙ rw (eq-eqb (length r) 80 h, a) (ap (handedOver ble public r) (sym (none-left ble public r 0)))
 
     pub from-secret : {b d k : List ℕ} → length r ≡ 80 → element .accepted ≡ true → b ≡ take 16 r
-        → d ≡ sha256 (element .secret) → k ≡ sixteenAt 0 d → s ≡ handedOver b (tried ble public b 0 (k ∷ []))
-        → s ≡ handedOver r (tried ble public r 0 (candidates l element r))
+        → d ≡ sha256 (element .secret) → k ≡ sixteenAt 0 d → s ≡ handedOver ble public b (tried ble public b 0 (k ∷ []))
+        → s ≡ handedOver ble public r (tried ble public r 0 (candidates l element r))
     unfolding candidates
     from-secret {k = k} h a q p t e = e ∙ by-block q (k ∷ []) ∙ rw (eq-eqb (length r) 80 h, a, t, p)
 

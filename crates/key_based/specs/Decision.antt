@@ -1,5 +1,5 @@
 -- Document 01, "Key-based write": answers 5 to 8, what an accepted request changes, and its response; document 02: the packet with the
--- name (i), the key that is used (ii).
+-- name (i), the key that is used (ii), answer 16 and the address that was named (vii).
 -- Assumes nothing.
 use mathlib.Core.Bool.{Bool, false, not}
 use mathlib.Core.List.{List, [], _∷_, _++_}
@@ -11,13 +11,15 @@ use Rattle.account_keys.specs.declared.AccountKeys.{AccountKeys}
 use Rattle.basics.specs.Answers.{isTaken}
 use Rattle.basics.specs.declared.Address.{Address}
 use Rattle.basics.specs.declared.Answer.{Answer}
-use Rattle.basics.specs.declared.Answer.the-variants.{Taken, LockedOut, NotInPairingMode, NoKeyFits, SaltSpent}
+use Rattle.basics.specs.declared.Answer.the-variants.{Taken, LockedOut, NotInPairingMode, NoKeyFits, SaltSpent, RotationAwaited}
+use Rattle.key_based.specs.Named.{fits}
 use Rattle.key_based.specs.Request.{hasPublicKey, requestSalt, bondAsked, nameAsked, noBond, response}
 use Rattle.key_based.specs.Search.{searched}
 use Rattle.key_based.specs.declared.Context.{Context}
 use Rattle.key_based.specs.declared.Decision.{Decision}
 use Rattle.key_based.specs.declared.Element.{Element}
 use Rattle.key_based.specs.declared.Search.{Search}
+use Rattle.key_based.specs.declared.named.Named.the-variants.{Neither}
 use Rattle.additional_data.specs.Packet.{sealed, packetSize}
 use Rattle.names.specs.Name.{textOf}
 use Rattle.names.specs.declared.Name.{Name}
@@ -26,20 +28,32 @@ use Rattle.request_guard.specs.declared.Guard.{Guard}
 use Rattle.sessions.specs.declared.Session.{Session}
 use Rattle.sessions.specs.declared.Stage.the-variants.{Asked}
 
--- an answer after n keys that hands out no address, sends no name and uses no key; the session stays
+-- an answer after n keys that names and hands out no address, sends no name and uses no key; the session stays
 abbrev pub refused : Guard → Session → Answer → ℕ → Decision
-refused g s a n = record { answer = a; tried = n; bond = noBond; guard = g; session = s; sends = false; uses = false }
+refused g s a n =
+    record {
+      answer = a;
+      tried = n;
+      named = Neither;
+      bond = noBond;
+      guard = g;
+      session = s;
+      sends = false;
+      uses = false;
+    }
 
 -- "K replaces the link's key, stage asked"
 abbrev pub asked : List ℕ → ℕ → Session
 asked key t = record { stage = Asked; key = key; since = record { 0 = t }; passkey = 0 }
 
--- "If accepted: remember the salt, count becomes 0, K replaces the link's key, stage asked"; `uses` says whether K is used
+-- "If accepted: remember the salt, count becomes 0, K replaces the link's key, stage asked"; `uses` says whether K is used. "The
+-- accepted answer hands this on": the address that was named
 abbrev pub accepted : Guard → ℕ → Bool → Search → Decision
 accepted g t uses r =
     record {
       answer = Taken;
       tried = r .tried;
+      named = r .named;
       bond = bondAsked (r .plain);
       guard = acceptedWith (requestSalt (r .plain)) g;
       session = asked (r .key) t;
@@ -54,7 +68,7 @@ saltKnown g r = spent (remembered (g .spent)) (requestSalt (r .plain))
 -- answers 7 and 8: "count plus 1, this failure's moment stored" if no candidate fits
 unfoldable pub settled : Guard → Session → ℕ → Bool → Search → Decision
 settled g s t uses r =
-    if not (r .found) then refused (failedAt t g) s NoKeyFits (r .tried) else
+    if not (fits (r .named)) then refused (failedAt t g) s NoKeyFits (r .tried) else
     if saltKnown g r then refused g s SaltSpent (r .tried) else
     accepted g t uses r
 
@@ -70,10 +84,12 @@ unwanted c request = hasPublicKey request and not (c .pairing)
 abbrev pub usesKey : List ℕ → Bool
 usesKey request = not (hasPublicKey request)
 
--- a request at moment t on a link with session s: answers 5 to 8 in this order
+-- a request at moment t on a link with session s: answers 5, 16, 6, 7 and 8 in this order. "Until the rotation, further key-based
+-- writes get a new answer 16, after 5 and before 6, uncounted, clock step only."
 unfoldable pub decided : Context → Session → ℕ → Element → List ℕ → Decision
 decided c s t element request =
     if locked (c .guard) then refused (c .guard) s LockedOut 0 else
+    if c .wait .on then refused (c .guard) s RotationAwaited 0 else
     if unwanted c request then refused (c .guard) s NotInPairingMode 0 else
     settled (c .guard) s t (usesKey request) (triedKeys c element request)
 

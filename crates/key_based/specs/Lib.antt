@@ -1,4 +1,5 @@
 pub mod Decision
+pub mod Named
 pub mod Promises
 pub mod Request
 pub mod Search

@@ -1,4 +1,5 @@
--- Document 01, "Key-based write": the keys that are tried, the block as a key opens it, and the response.
+-- Document 01, "Key-based write": the keys that are tried, the block as a key opens it, and the response. Which address it names is
+-- `Named`'s.
 -- Assumes nothing.
 use mathlib.Core.Bool.{Bool, true, false, not}
 use mathlib.Core.List.{List, [], _∷_, _++_, map}
@@ -9,7 +10,6 @@ use lib.ListN.{length, take, drop, getD, replicate}
 use Rattle.laws.specs.Choice.{if_then_else_, _and_, _or_}
 use Rattle.account_keys.specs.declared.AccountKey.{AccountKey}
 use Rattle.aes128.specs.Cipher.{cipher, invCipher}
-use Rattle.basics.specs.Bytes.{same}
 use Rattle.basics.specs.declared.Address.{Address}
 use Rattle.key_based.specs.declared.Bond.{Bond}
 use Rattle.key_based.specs.declared.Element.{Element}
@@ -34,16 +34,6 @@ candidates keys element request =
 -- the encrypted request, its first 16 bytes, as a key decrypts it
 abbrev pub opened : List ℕ → List ℕ → List ℕ
 opened key request = invCipher key (take 16 request)
-
--- bytes 2 to 7
-abbrev pub namedAddress : List ℕ → List ℕ
-namedAddress plain = take 6 (drop 2 plain)
-
--- "It fits if the decrypted byte 0 is 0x00 and bytes 2 to 7 equal the current BLE address or the public address."
-unfoldable pub fitting : Address → Address → List ℕ → Bool
-fitting ble public plain =
-    eqb (getD plain 0 0) 0x00 and (same (namedAddress plain) (ble .bytes) or same (namedAddress plain)
-    (public .bytes))
 
 -- the first key that fits with its place, counted from 1, or the number of keys that were tried
 pub data Found : Type 0 where

@@ -1,5 +1,8 @@
 // Document 01, "Key-based write", over the block of source document 004, table 1: the keys that are tried, the answer that a request
-// gets, what it changes, its response, and by document 02 the packet with the name and the use of a key.
+// gets, what it changes, its response, and by document 02 the packet with the name, the use of a key and the address that is named.
+pub mod named;
+
+use crate::named::Named;
 use account_keys::AccountKey;
 use account_keys::AccountKeys;
 use basics::Address;
@@ -8,6 +11,7 @@ use basics::Moment;
 use names::Name;
 use request_guard::Guard;
 use request_guard::Salt;
+use request_guard::wait::RotationWait;
 use sessions::Session;
 use sessions::Stage;
 ghost use mathlib.Core.Path.{_≡_};
@@ -37,9 +41,10 @@ pub struct Bond {
     pub address: Address,
 }
 
-// What trying the keys came to: how many were tried, and the key that fits with the block as it opens it; else zero.
+// What trying the keys came to: the address that is named, neither if no key fits; how many were tried; and the key that fits with
+// the block as it opens it, else zero.
 pub struct Search {
-    pub found: bool,
+    pub named: Named,
     pub tried: u8,
     pub key: [u8; 16],
     pub plain: [u8; 16],
@@ -52,6 +57,7 @@ pub struct Context {
     pub pairing: bool,
     pub keys: AccountKeys,
     pub guard: Guard,
+    pub wait: RotationWait,
     pub name: Name,
 }
 
@@ -60,6 +66,7 @@ pub struct Context {
 pub struct Decision {
     pub answer: Answer,
     pub tried: u8,
+    pub named: Named,
     pub bond: Bond,
     pub guard: Guard,
     pub session: Session,
@@ -146,7 +153,7 @@ fn send_name(sends: bool, key: [u8; 16], name: Name, nonce: [u8; 8], packet: &mu
     additional_data::seal(key, nonce, name, packet);
 }
 
-// Answers 5 and 6, and then what the keys tried come to.
+// Answers 5, 16 and 6, and then what the keys tried come to.
 fn decided(
     context: Context,
     session: Session,
@@ -160,6 +167,9 @@ fn decided(
     let guard = context.guard;
     if guard.locked() {
         return refused(guard, session, Answer::LockedOut, 0);
+    }
+    if context.wait.on {
+        return refused(guard, session, Answer::RotationAwaited, 0);
     }
     if is_unwanted(request, context.pairing) {
         return refused(guard, session, Answer::NotInPairingMode, 0);
@@ -176,7 +186,8 @@ fn settled(guard: Guard, session: Session, clock: Moment, uses: bool, search: Se
     requires { ⌜ guards.Valid guard × (guard .failures .count < 10) ⌝ }
     ensures { λ r. ⌜ r ≡ rule.settled guard session (clock .0) uses search ⌝ }
 {
-    if !search.found {
+    let named = search.named;
+    if !named.is_fitting() {
         return refused(
             guard.failed(clock),
             session,
@@ -193,6 +204,7 @@ fn settled(guard: Guard, session: Session, clock: Moment, uses: bool, search: Se
     Decision {
         answer: Answer::Taken,
         tried: search.tried,
+        named: named,
         bond: bond_asked(plain),
         guard: guard.accepted(salt),
         session: asked(key, clock),
@@ -201,13 +213,14 @@ fn settled(guard: Guard, session: Session, clock: Moment, uses: bool, search: Se
     }
 }
 
-// An answer after `tried` keys that hands out no address, sends no name and uses no key.
+// An answer after `tried` keys that names and hands out no address, sends no name and uses no key.
 fn refused(guard: Guard, session: Session, answer: Answer, tried: u8) -> Decision
     ensures { λ r. ⌜ r ≡ rule.refused guard session answer tried ⌝ }
 {
     Decision {
         answer: answer,
         tried: tried,
+        named: Named::Neither,
         bond: no_bond(),
         guard: guard,
         session: session,
@@ -260,7 +273,7 @@ fn try_keys(
 // The account keys, in list order.
 fn try_owners(ble: Address, public: Address, keys: AccountKeys, block: [u8; 16]) -> Search
     requires { ⌜ Kept keys ⌝ }
-    ensures { λ r. ⌜ r ≡ handedOver block (tried ble public block 0 (map (λ k. k .bytes) (held keys))) ⌝ }
+    ensures { λ r. ⌜ r ≡ handedOver ble public block (tried ble public block 0 (map (λ k. k .bytes) (held keys))) ⌝ }
 {
     let n = keys.count;
     let mut last = none_fits(0);
@@ -269,8 +282,9 @@ fn try_owners(ble: Address, public: Address, keys: AccountKeys, block: [u8; 16])
         let owner = keys.keys[i];
         let key = owner.bytes;
         let attempt = try_key(ble, public, key, block, i as u8);
+        let named = attempt.named;
         last = attempt;
-        if last.found {
+        if named.is_fitting() {
             break;
         }
         i += 1;
@@ -281,14 +295,15 @@ fn try_owners(ble: Address, public: Address, keys: AccountKeys, block: [u8; 16])
 // One of the keys held, after `before` others.
 fn try_key(ble: Address, public: Address, key: [u8; 16], block: [u8; 16], before: u8) -> Search
     requires { ⌜ before < limit ⌝ }
-    ensures { λ r. ⌜ r ≡ handedOver block (tried ble public block before (key ∷ [])) ⌝ }
+    ensures { λ r. ⌜ r ≡ handedOver ble public block (tried ble public block before (key ∷ [])) ⌝ }
 {
     let plain = aes128::decrypt(key, block);
-    if !fitting(ble, public, plain) {
+    let named = named::address_named(ble, public, plain);
+    if !named.is_fitting() {
         return none_fits(before + 1);
     }
     Search {
-        found: true,
+        named: named,
         tried: before + 1,
         key: key,
         plain: plain,
@@ -299,25 +314,11 @@ fn none_fits(count: u8) -> Search
     ensures { λ r. ⌜ r ≡ noneFits count ⌝ }
 {
     Search {
-        found: false,
+        named: Named::Neither,
         tried: count,
         key: [0u8; 16],
         plain: [0u8; 16],
     }
-}
-
-// A block that names one of our addresses.
-fn fitting(ble: Address, public: Address, plain: [u8; 16]) -> bool
-    ensures { λ r. ⌜ r ≡ spec.fitting ble public plain ⌝ }
-{
-    if plain[0] != 0x00 {
-        return false;
-    }
-    let named = &plain[2..8];
-    if basics::same(named, &ble.bytes) {
-        return true;
-    }
-    basics::same(named, &public.bytes)
 }
 
 // The salt of a request: two bytes where bytes 8 to 13 hold the seeker's address.

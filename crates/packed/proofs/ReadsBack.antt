@@ -14,7 +14,7 @@ use Rattle.names.specs.declared.NameReading.{NameReading}
 use Rattle.packed.proofs.Links.{links-back, known-back, session-canonical}
 use Rattle.packed.proofs.StoredKeys.{list-back, list-valid}
 use Rattle.packed.specs.Promises.{ReadsBack, AnyBytes}
-use Rattle.packed.specs.Packed.{noSession, sessionOf, stagesKnown, listOf, isWellFormed, flag, packed, guardOf, numbersKnown, isDevice, withParts, deviceOf}
+use Rattle.packed.specs.Packed.{noSession, sessionOf, stagesKnown, listOf, isWellFormed, flag, packed, guardOf, waitOf, guardKnown, flagsKnown, numbersKnown, isDevice, withParts, deviceOf}
 use Rattle.packed.specs.declared.FpDevice.{FpDevice}
 use Rattle.packed.specs.declared.Unpacked.{Unpacked}
 use Rattle.provider.proofs.Theorems.ValidParts.{off-valid}
@@ -22,7 +22,9 @@ use Rattle.provider.specs.Rules.Control.{off}
 use Rattle.provider.specs.Demands.Validity.{Valid}
 use Rattle.provider.specs.declared.Device.{Device}
 use Rattle.request_guard.proofs.Laws.{cleaned-valid, valid-bounded, valid-cleaned}
+use Rattle.request_guard.proofs.Uncounted.{cleaned-uncounted}
 use Rattle.request_guard.specs.Guard.{bounded}
+use Rattle.request_guard.specs.Wait.{uncounted}
 use Rattle.sessions.specs.Sessions.{Canonical, linkCount}
 use Rattle.account_keys.specs.Keys as keys
 
@@ -32,7 +34,7 @@ flag-known : (on : Bool) → leb (flag on) 1 ≡ true
 flag-known true = refl
 flag-known false = refl
 
-flag-back : (on : Bool) → eqb (flag on) 1 ≡ on
+pub flag-back : (on : Bool) → eqb (flag on) 1 ≡ on
 flag-back true = refl
 flag-back false = refl
 
@@ -43,8 +45,11 @@ packed-known d v =
       ap (λ (r : Reading). r .form) (list-back (d .keys) (v .keys)),
       ap (λ (r : NameReading). r .good) (valid-reads-again (d .name) (v .name)),
       valid-bounded (d .guard) (v .guard),
+      flag-back (d .wait .on),
+      v .wait,
       known-back (d .sessions),
       flag-known (d .beacon .pairing),
+      flag-known (d .wait .on),
     )
 
 pub packed-reads-back : ReadsBack
@@ -58,6 +63,7 @@ packed-reads-back d v = (
     links-back (d .sessions) (v .links) (v .sessions),
     valid-cleaned (d .guard) (v .guard),
     flag-back (d .beacon .pairing),
+    flag-back (d .wait .on),
   ),
 )
 
@@ -73,13 +79,15 @@ any-bytes f = go (isDevice f) refl
         let formed = isWellFormed (listOf (f .stored) .form) in
         let named = readAgain (f .name) .good in
         let known : numbersKnown f ≡ true = and-right named (numbersKnown f) (and-right formed (named and numbersKnown f) h) in
+        let guarded : guardKnown f ≡ true = and-left (guardKnown f) (stagesKnown (f .sessions) and flagsKnown f) known in
         record {
           keys = list-valid (f .stored) (and-left formed (named and numbersKnown f) h);
           links = refl;
           sessions = all-tabulate Canonical linkCount (λ l. sessionOf (getD (f .sessions) l noSession))
               (λ l. session-canonical (getD (f .sessions) l noSession));
-          guard = cleaned-valid (guardOf f)
-              (and-left (bounded (guardOf f)) (stagesKnown (f .sessions) and leb (f .pairing) 1) known);
+          guard = cleaned-valid (guardOf f) (and-left (bounded (guardOf f)) (uncounted (waitOf f) (guardOf f)) guarded);
+          wait = cleaned-uncounted (waitOf f) (guardOf f)
+              ∙ and-right (bounded (guardOf f)) (uncounted (waitOf f) (guardOf f)) guarded;
           name = read-again-valid (f .name);
         }
     go false h = off-valid

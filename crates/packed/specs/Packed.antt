@@ -15,6 +15,7 @@ use Rattle.account_keys.specs.declared.ListForm.{ListForm}
 use Rattle.account_keys.specs.declared.ListForm.the-variants.{WellFormed, Malformed}
 use Rattle.account_keys.specs.declared.Reading.{Reading}
 use Rattle.basics.specs.declared.Report.{Report}
+use Rattle.key_based.specs.Named.{namedNumber, asksRotation}
 use Rattle.key_based.specs.declared.Element.{Element}
 use Rattle.packed.specs.declared.FpDevice.{FpDevice}
 use Rattle.packed.specs.declared.FpElement.{FpElement}
@@ -33,7 +34,9 @@ use Rattle.provider.specs.declared.Device.{Device}
 use Rattle.provider.specs.declared.Outcome.{Outcome}
 use Rattle.provider.specs.declared.Reply.{Reply}
 use Rattle.request_guard.specs.Guard.{bounded, cleaned}
+use Rattle.request_guard.specs.Wait.{uncounted}
 use Rattle.request_guard.specs.declared.Guard.{Guard}
+use Rattle.request_guard.specs.declared.wait.RotationWait.{RotationWait}
 use Rattle.sessions.specs.Sessions.{linkCount, idle, sessionAt, stageNumber}
 use Rattle.sessions.specs.declared.Session.{Session}
 use Rattle.sessions.specs.declared.Sessions.{Sessions}
@@ -115,16 +118,27 @@ packed d =
       filter = d .beacon .filter;
       pairing = flag (d .beacon .pairing);
       failures = d .guard .failures .count;
-      reserved = replicate 6 0;
+      awaited = flag (d .wait .on);
+      reserved = replicate 5 0;
     }
 
 abbrev pub guardOf : FpDevice → Guard
 guardOf f =
     record { spent = f .spent; failures = record { count = f .failures; last = f .failed } }
 
+abbrev pub waitOf : FpDevice → RotationWait
+waitOf f = record { on = eqb (f .awaited) 1 }
+
+-- counts and salts that a guard can have, and no failure counted while a rotation is awaited
+abbrev pub guardKnown : FpDevice → Bool
+guardKnown f = bounded (guardOf f) and uncounted (waitOf f) (guardOf f)
+
+abbrev pub flagsKnown : FpDevice → Bool
+flagsKnown f = leb (f .pairing) 1 and leb (f .awaited) 1
+
 -- the numbers beside the keys and the name are within what the rules can be served on
 abbrev pub numbersKnown : FpDevice → Bool
-numbersKnown f = bounded (guardOf f) and stagesKnown (f .sessions) and leb (f .pairing) 1
+numbersKnown f = guardKnown f and stagesKnown (f .sessions) and flagsKnown f
 
 -- the bytes that are served as a device; those in places that are not in use do not count
 unfoldable pub isDevice : FpDevice → Bool
@@ -138,6 +152,7 @@ withParts f keys name =
       keys = keys;
       sessions = linksOf (f .sessions);
       guard = cleaned (guardOf f);
+      wait = waitOf f;
       identity = f .identity;
       beacon = record { ble = f .ble; salt = f .salt; filter = f .filter; pairing = eqb (f .pairing) 1 };
       name = name;
@@ -161,11 +176,13 @@ packedReply r =
       tried = r .tried;
       confirm = confirmNumber (r .confirm);
       packet = r .packet;
+      named = namedNumber (r .named);
+      rotate = asksRotation (r .named);
       bond = r .bond;
     }
 
 abbrev pub packedOutcome : Outcome → FpOutcome
-packedOutcome o = record { next = packed (o .next); reply = packedReply (o .reply); reserved = replicate 5 0 }
+packedOutcome o = record { next = packed (o .next); reply = packedReply (o .reply); reserved = replicate 3 0 }
 
 abbrev pub packedReport : Report → FpReport
 packedReport r = record { length = r .length; answer = answerNumber (r .answer); reserved = replicate 7 0 }

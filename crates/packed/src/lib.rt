@@ -47,17 +47,21 @@ pub struct FpDevice {
     pub filter: [u8; FILTER_MAX],
     pub pairing: u8,
     pub failures: u8,
-    pub reserved: [u8; 6],
+    pub awaited: u8,
+    pub reserved: [u8; 5],
 }
 
 // All that an answer hands out; `confirm` is 0 where the radio is asked nothing, 1 for yes, 2 for no; `packet` is the length of the
-// packet with the name, 0 where none is sent.
+// packet with the name, 0 where none is sent; `named` is 1 where a request named the BLE address, and then `rotate` says so to the
+// radio, 2 for the public address, else 0.
 #[repr(C)]
 pub struct FpReply {
     pub answer: u8,
     pub tried: u8,
     pub confirm: u8,
     pub packet: u8,
+    pub named: u8,
+    pub rotate: bool,
     pub bond: Bond,
 }
 
@@ -65,7 +69,7 @@ pub struct FpReply {
 pub struct FpOutcome {
     pub next: FpDevice,
     pub reply: FpReply,
-    pub reserved: [u8; 5],
+    pub reserved: [u8; 3],
 }
 
 // What became of a text that goes to a lent output, and how many bytes were written.

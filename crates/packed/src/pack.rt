@@ -47,7 +47,8 @@ pub fn pack(device: Device) -> FpDevice
         filter: filter,
         pairing: flag(device.beacon.pairing),
         failures: device.guard.failures.count,
-        reserved: [0u8; 6],
+        awaited: flag(device.wait.on),
+        reserved: [0u8; 5],
     }
 }
 
@@ -60,7 +61,7 @@ pub fn pack_outcome(outcome: Outcome) -> FpOutcome
     FpOutcome {
         next: pack(next),
         reply: pack_reply(reply),
-        reserved: [0u8; 5],
+        reserved: [0u8; 3],
     }
 }
 
@@ -131,12 +132,15 @@ fn pack_reply(reply: Reply) -> FpReply
 {
     let answer = reply.answer;
     let confirm = reply.confirm;
+    let named = reply.named;
     let bond = reply.bond;
     FpReply {
         answer: answer.number(),
         tried: reply.tried,
         confirm: confirm_number(confirm),
         packet: reply.packet,
+        named: named.number(),
+        rotate: named.asks_rotation(),
         bond: bond,
     }
 }

@@ -14,6 +14,7 @@ use names::Name;
 use provider::Device;
 use request_guard::Failures;
 use request_guard::Guard;
+use request_guard::wait::RotationWait;
 use sessions::LINKS;
 use sessions::Session;
 use sessions::Sessions;
@@ -61,15 +62,34 @@ fn no_device() -> Unpacked
 fn numbers_known(from: FpDevice) -> bool
     ensures { λ r. ⌜ r ≡ spec.numbersKnown from ⌝ }
 {
-    let guard = guard_of(from);
-    if !guard.is_bounded() {
+    if !guard_known(from) {
         return false;
     }
     let sessions = from.sessions;
     if !stages_known(sessions) {
         return false;
     }
-    from.pairing <= 1
+    flags_known(from)
+}
+
+// The counts and salts of a guard, and no failure counted while a rotation is awaited.
+fn guard_known(from: FpDevice) -> bool
+    ensures { λ r. ⌜ r ≡ spec.guardKnown from ⌝ }
+{
+    let guard = guard_of(from);
+    if !guard.is_bounded() {
+        return false;
+    }
+    wait_of(from).is_uncounted(guard)
+}
+
+fn flags_known(from: FpDevice) -> bool
+    ensures { λ r. ⌜ r ≡ spec.flagsKnown from ⌝ }
+{
+    if 1 < from.pairing {
+        return false;
+    }
+    from.awaited <= 1
 }
 
 fn with_parts(from: FpDevice, keys: AccountKeys, name: Name) -> Device
@@ -88,6 +108,7 @@ fn with_parts(from: FpDevice, keys: AccountKeys, name: Name) -> Device
         keys: keys,
         sessions: links_of(sessions),
         guard: guard.cleaned(),
+        wait: wait_of(from),
         identity: identity,
         beacon: Beacon {
             ble: ble,
@@ -110,6 +131,14 @@ fn guard_of(from: FpDevice) -> Guard
             count: from.failures,
             last: failed,
         },
+    }
+}
+
+fn wait_of(from: FpDevice) -> RotationWait
+    ensures { λ r. ⌜ r ≡ spec.waitOf from ⌝ }
+{
+    RotationWait {
+        on: from.awaited == 1,
     }
 }
 

@@ -35,15 +35,17 @@ use Rattle.pairing.specs.Pairing.{PairingEvent, sessionStep}
 use Rattle.pairing.specs.Pairing as pairing
 use Rattle.pairing.specs.declared.SessionOutcome.{SessionOutcome}
 use Rattle.provider.specs.Demands.Validity.{Valid}
-use Rattle.provider.specs.Rules.Control.{powerOn, named, started, factoryReset}
-use Rattle.provider.specs.Rules.Device.{Effect, given, answers, takes, dropAll, dropAt, withSessions, withGuard, withKeys, withBeacon, withName, clockStep, inTime, onKnownLink, checkedOf}
+use Rattle.provider.specs.Rules.Control.{powerOn, byName, started, factoryReset}
+use Rattle.provider.specs.Rules.Device.{Effect, given, answers, takes, dropAll, dropAt, withSessions, withGuard, withWait, withKeys, withBeacon, withName, clockStep, inTime, onKnownLink, checkedOf}
 use Rattle.provider.specs.Rules.Event.{LinkEvent, KeyBasedWrite, OnLink, OnSession, lentOnLink, early, earlyOnSession, requestSize, responseRoom, contextOf, requested, applied, onLink, step}
 use Rattle.provider.specs.declared.Checked.{Checked}
 use Rattle.provider.specs.declared.Device.{Device}
 use Rattle.provider.specs.declared.Start.{Start}
 use Rattle.request_guard.proofs.Laws.{clock-valid}
 use Rattle.request_guard.specs.Guard as guards
+use Rattle.request_guard.specs.Wait.{noWait}
 use Rattle.request_guard.specs.declared.Guard.{Guard}
+use Rattle.request_guard.specs.declared.wait.RotationWait.{RotationWait}
 use Rattle.sessions.specs.Sessions.{linkCount, idle, allIdle, sessionAt, withSession}
 use Rattle.sessions.specs.declared.Session.{Session}
 use Rattle.sessions.specs.declared.Sessions.{Sessions}
@@ -247,7 +249,7 @@ module _ (d : Device) (l t : ℕ) (request : List ℕ) (element : Element) (salt
 
 -- the two ways of its name, by what it was read as
 module _ (d : Device) (ks : AccountKeys) (n : List ℕ) (s : Start) {r : NameReading} (e : r ≡ names.reading n) where
-  pub bad-name : r .good ≡ false → given d ListMalformed ≡ named d ks n s .gives
+  pub bad-name : r .good ≡ false → given d ListMalformed ≡ byName d ks n s .gives
   bad-name g = go (isName n) (ap (λ (x : NameReading). x .good) (sym e) ∙ g)
     where
       go : (b : Bool) → (if b then record { good = true; name = nameOf n } else names.notAName) .good ≡ false
@@ -255,7 +257,7 @@ module _ (d : Device) (ks : AccountKeys) (n : List ℕ) (s : Start) {r : NameRea
       go true q = absurd (true-is (sym q))
       go false q = refl
 
-  pub good-name : r .good ≡ true → given (started ks (r .name) s) Taken ≡ named d ks n s .gives
+  pub good-name : r .good ≡ true → given (started ks (r .name) s) Taken ≡ byName d ks n s .gives
   good-name g =
       ap (λ (x : NameReading). given (started ks (x .name) s) Taken) e
       ∙ go (isName n) (ap (λ (x : NameReading). x .good) (sym e) ∙ g)
@@ -268,7 +270,7 @@ module _ (d : Device) (ks : AccountKeys) (n : List ℕ) (s : Start) {r : NameRea
 
 -- the two ways of a power-on's list
 module _ (d : Device) (b n : List ℕ) (s : Start) where
-  pub list-read : reading b .form ≡ WellFormed → powerOn d b n s ≡ named d (reading b .keys) n s
+  pub list-read : reading b .form ≡ WellFormed → powerOn d b n s ≡ byName d (reading b .keys) n s
   unfolding powerOn
   list-read e = rw e
 
@@ -277,14 +279,18 @@ module _ (d : Device) (b n : List ℕ) (s : Start) where
   list-malformed e = rw e
 
 -- what factory reset empties
-pub emptied : (d : Device) {ks : AccountKeys} {ss : Sessions} {g : Guard} {b : Beacon} {n : Name} → ks ≡ kept [] → ss ≡ allIdle
+pub emptied : (d : Device) {ks : AccountKeys} {ss : Sessions} {g : Guard} {w : RotationWait} {b : Beacon} {n : Name}
+    → ks ≡ kept [] → ss ≡ allIdle
     → g ≡ guards.fresh
+    → w ≡ noWait
     → b ≡ beacon.withKeys (d .beacon) (held ks)
     → n ≡ noName
-    → given (withBeacon (withName (withKeys (withGuard (withSessions d ss) g) ks) n) b) Taken ≡ given (factoryReset d) Taken
-emptied d e f h s k =
+    → given (withBeacon (withName (withKeys (withWait (withGuard (withSessions d ss) g) w) ks) n) b) Taken
+    ≡ given (factoryReset d) Taken
+emptied d e f h w s k =
     let shown = s ∙ ap (λ (ks : AccountKeys). beacon.withKeys (d .beacon) (held ks)) e in
-    λ i. given (withBeacon (withName (withKeys (withGuard (withSessions d (f i)) (h i)) (e i)) (k i)) (shown i)) Taken
+    λ i. given (withBeacon (withName (withKeys (withWait (withGuard (withSessions d (f i)) (h i)) (w i)) (e i)) (k i))
+    (shown i)) Taken
 
 -- the list that power-on read, and the one with no key
 pub list-kept : (stored : List ℕ) → reading stored .form ≡ WellFormed → Kept (reading stored .keys)

@@ -11,6 +11,7 @@ pub mod Names
 pub mod OrderOfUse
 pub mod PartKept
 pub mod Refusals
+pub mod Rotation
 pub mod Samples
 pub mod SessionPairs
 pub mod Stores

@@ -5,6 +5,7 @@ pub mod KeptFilter
 pub mod LinksApart
 pub mod Names
 pub mod Refusals
+pub mod Rotation
 pub mod Samples
 pub mod Use
 pub mod Validity

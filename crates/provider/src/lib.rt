@@ -11,9 +11,11 @@ use basics::Link;
 use basics::Moment;
 use basics::Report;
 use key_based::Bond;
+use key_based::named::Named;
 use names::Name;
 use pairing::Confirm;
 use request_guard::Guard;
+use request_guard::wait::RotationWait;
 use sessions::Sessions;
 ghost use mathlib.Core.Path.{_≡_};
 ghost use mathlib.Core.List.{[]};
@@ -31,6 +33,8 @@ pub struct Reply {
     pub answer: Answer,
     // the number of keys tried
     pub tried: u8,
+    // the address that an accepted request named
+    pub named: Named,
     pub bond: Bond,
     pub confirm: Confirm,
     // the length of the packet with the name; 0 where none is sent
@@ -49,6 +53,7 @@ pub struct Device {
     pub keys: AccountKeys,
     pub sessions: Sessions,
     pub guard: Guard,
+    pub wait: RotationWait,
     pub identity: Identity,
     pub beacon: Beacon,
     pub name: Name,
@@ -84,6 +89,7 @@ impl Device {
             keys: AccountKeys::none(),
             sessions: Sessions::all_idle(),
             guard: Guard::new(),
+            wait: RotationWait::none(),
             identity: Identity {
                 public: Address { bytes: [0u8; 6] },
                 model: [0u8; 3],
@@ -102,16 +108,16 @@ impl Device {
         match form {
             ListForm::WellFormed => {
                 let keys = list.keys;
-                self.named(keys, name, start)
+                self.by_name(keys, name, start)
             }
             ListForm::Malformed => self.answers(Answer::ListMalformed),
         }
     }
 
     // Power-on with these keys, if the name is one.
-    fn named(self, keys: AccountKeys, name: &[u8], start: Start) -> Outcome
+    fn by_name(self, keys: AccountKeys, name: &[u8], start: Start) -> Outcome
         requires { ⌜ Kept keys ⌝ }
-        ensures { λ r. ⌜ r ≡ control.named self keys (now (name .entry)) start .gives ⌝ }
+        ensures { λ r. ⌜ r ≡ control.byName self keys (now (name .entry)) start .gives ⌝ }
     {
         let reading = names::read(name);
         if !reading.good {
@@ -154,6 +160,7 @@ impl Device {
         let beacon = self.beacon;
         let keys = self.keys;
         self.beacon = beacon.rotated(ble, salt, keys);
+        self.wait = RotationWait::none();
         self.answers(Answer::Taken)
     }
 
@@ -170,6 +177,7 @@ impl Device {
         let beacon = self.beacon;
         self.sessions = Sessions::all_idle();
         self.guard = Guard::new();
+        self.wait = RotationWait::none();
         self.keys = keys;
         self.beacon = beacon.with_keys(keys);
         self.name = Name::none();
@@ -206,6 +214,7 @@ impl Device {
             reply: Reply {
                 answer: answer,
                 tried: 0,
+                named: Named::Neither,
                 bond: key_based::no_bond(),
                 confirm: Confirm::Unasked,
                 packet: 0,
@@ -280,6 +289,7 @@ fn started(keys: AccountKeys, name: Name, start: Start) -> Device
         keys: keys,
         sessions: Sessions::all_idle(),
         guard: Guard::new(),
+        wait: RotationWait::none(),
         identity: identity,
         beacon: Beacon::new(ble, salt, keys),
         name: name,

@@ -9,6 +9,7 @@ use basics::Moment;
 use key_based::Context;
 use key_based::Decision;
 use key_based::Element;
+use key_based::named::Named;
 use pairing::Confirm;
 use pairing::SessionOutcome;
 use sessions::Session;
@@ -196,6 +197,7 @@ impl Device {
             reply: Reply {
                 answer: answer,
                 tried: 0,
+                named: Named::Neither,
                 bond: key_based::no_bond(),
                 confirm: confirm,
                 packet: 0,
@@ -211,6 +213,7 @@ impl Device {
         let public = self.identity.public;
         let keys = self.keys;
         let guard = self.guard;
+        let wait = self.wait;
         let name = self.name;
         Context {
             ble: ble,
@@ -218,6 +221,7 @@ impl Device {
             pairing: self.beacon.pairing,
             keys: keys,
             guard: guard,
+            wait: wait,
             name: name,
         }
     }
@@ -233,17 +237,21 @@ impl Device {
         let key = session.key;
         let guard = decision.guard;
         let answer = decision.answer;
+        let named = decision.named;
         let bond = decision.bond;
+        let wait = self.wait;
         let name = self.name;
         let packet = key_based::packet_length(decision.sends, name);
         self.sessions = sessions.with(link, session);
         self.keys = key_based::used_in(decision.uses, key, keys);
         self.guard = guard;
+        self.wait = wait.after(named.asks_rotation());
         Outcome {
             next: self,
             reply: Reply {
                 answer: answer,
                 tried: decision.tried,
+                named: named,
                 bond: bond,
                 confirm: Confirm::Unasked,
                 packet: packet,

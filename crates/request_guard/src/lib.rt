@@ -1,4 +1,7 @@
-// What guards key-based writes: the last 16 accepted salts, and the failures that were counted (document 01).
+// What guards key-based writes: the last 16 accepted salts, and the failures that were counted (document 01); `wait` has the wait
+// for a rotation.
+pub mod wait;
+
 use basics::Moment;
 ghost use mathlib.Core.Bool.{true};
 ghost use mathlib.Core.Path.{_≡_};

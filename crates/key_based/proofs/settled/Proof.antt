@@ -1,6 +1,6 @@
 -- The three ways of the search.
 use mathlib.Core.Path.{sym, ap, _∙_}
-use borrow.Author.Tests.{not-true, not-false}
+use Rattle.laws.proofs.Choice.{negated-true, negated-false}
 use Rattle.request_guard.specs.Guard as guards
 use Rattle.basics.specs.declared.Answer.the-variants.{NoKeyFits}
 use Rattle.request_guard.specs.declared.Guard.{Guard}
@@ -13,22 +13,24 @@ use Rattle.key_based.proofs.settled.Tie as tie
 returns : tie.Need-returns
 returns c =
     let at-if1 = c .before .before in
-    let start = at-if1 .before .before in
+    let at-is-fitting = at-if1 .before in
+    let start = at-is-fitting .before in
     c .refused .ensures ∙ ap
     (λ (g : Guard). rule.refused g (start .args .session) NoKeyFits (start .args .search .tried))
     (c .before .failed .ensures) ∙ sym
     (none-fits (start .args .guard) (start .args .session) (start .args .clock .0) (start .args .uses) (start .args .search)
-    (not-true (start .args .search .found) (at-if1 .if1 .taken)))
+    (negated-true (at-is-fitting .is-fitting .ensures) (at-if1 .if1 .taken)))
 
 returns-2 : tie.Need-returns-2
 returns-2 c =
     let at-is-spent = c .before .before in
     let at-request-salt = at-is-spent .before in
     let at-if1 = at-request-salt .before .before in
-    let start = at-if1 .before .before in
+    let at-is-fitting = at-if1 .before in
+    let start = at-is-fitting .before in
     c .refused2 .ensures ∙ sym
     (salt-spent (start .args .guard) (start .args .session) (start .args .clock .0) (start .args .uses) (start .args .search)
-    (not-false (start .args .search .found) (at-if1 .if1 .left))
+    (negated-false (at-is-fitting .is-fitting .ensures) (at-if1 .if1 .left))
     (ap (guards.spent (guards.remembered (start .args .guard .spent)))
     (sym (at-request-salt .request-salt .ensures)) ∙ sym (at-is-spent .is-spent .ensures) ∙
     c .before .if2 .taken))
@@ -42,7 +44,8 @@ returns-3 c =
     let at-is-spent = at-if2 .before in
     let at-request-salt = at-is-spent .before in
     let at-if1 = at-request-salt .before .before in
-    let start = at-if1 .before .before in
+    let at-is-fitting = at-if1 .before in
+    let start = at-is-fitting .before in
     rw (
       c .name-asked .ensures,
       at-bond-asked .bond-asked .ensures,
@@ -51,7 +54,7 @@ returns-3 c =
       at-request-salt .request-salt .ensures,
     )
     (sym (request-accepted (start .args .guard) (start .args .session) (start .args .clock .0)
-    (start .args .uses) (start .args .search) (not-false (start .args .search .found) (at-if1 .if1 .left))
+    (start .args .uses) (start .args .search) (negated-false (at-is-fitting .is-fitting .ensures) (at-if1 .if1 .left))
     (ap (guards.spent (guards.remembered (start .args .guard .spent)))
     (sym (at-request-salt .request-salt .ensures)) ∙ sym (at-is-spent .is-spent .ensures) ∙ at-if2 .if2 .left)))
 
@@ -59,6 +62,7 @@ pub settled-spec : {M : Type 1} → statement M
 settled-spec =
     tie.close
     (tie.spec
+    (λ c κs. search needs)
     (λ c κs. search needs)
     (λ c κs. search needs)
     returns

@@ -1,5 +1,5 @@
 -- No key passed fits: the search through the rest, with their number, is the whole search.
-use mathlib.Core.Path.{_≡_, refl}
+use mathlib.Core.Path.{_≡_, refl, sym, _∙_}
 use Prim.Native.Nat.{_≤_, _-_}
 use native.Mathlib.Omega.{arith}
 use borrow.Author.Needs.{needs}
@@ -30,12 +30,14 @@ try-key-requires c κs =
 
 loop-again : tie.Need-loop-again Inv-loop μ-loop
 loop-again c =
-    let at-loop-test = c .before .before .before .before in
+    let at-is-fitting = c .before in
+    let at-try-key = at-is-fitting .before in
+    let at-loop-test = at-try-key .before .before .before in
     let at-loop = at-loop-test .before in
     let start = at-loop .before .before in
     let p = key-passed (start .args .ble) (start .args .public) (start .args .block) (start .args .t3) (start .pre)
-    (at-loop .loop .i) (at-loop .loop .inv .3) (at-loop-test .loop-test .taken) (c .before .try-key .ensures)
-    (c .if1 .left) in
+    (at-loop .loop .i) (at-loop .loop .inv .3) (at-loop-test .loop-test .taken) (at-try-key .try-key .ensures)
+    (sym (at-is-fitting .is-fitting .ensures) ∙ c .if1 .left) in
     (search needs, refl, p .0, p .1)
 
 returns : tie.Need-returns Inv-loop μ-loop
@@ -46,12 +48,14 @@ returns c =
 
 returns-2 : tie.Need-returns-2 Inv-loop μ-loop
 returns-2 c =
-    let at-loop-test = c .before .before .before .before in
+    let at-is-fitting = c .before in
+    let at-try-key = at-is-fitting .before in
+    let at-loop-test = at-try-key .before .before .before in
     let at-loop = at-loop-test .before in
     let start = at-loop .before .before in
     key-fits (start .args .ble) (start .args .public) (start .args .block) (start .args .t3) (start .pre)
-    (at-loop .loop .i) (at-loop .loop .inv .3) (at-loop-test .loop-test .taken) (c .before .try-key .ensures)
-    (c .if1 .taken)
+    (at-loop .loop .i) (at-loop .loop .inv .3) (at-loop-test .loop-test .taken) (at-try-key .try-key .ensures)
+    (sym (at-is-fitting .is-fitting .ensures) ∙ c .if1 .taken)
 
 pub try-owners-spec : {M : Type 1} → statement M
 try-owners-spec =
@@ -65,6 +69,7 @@ try-owners-spec =
     (λ c. search needs)
     cast-try-key
     try-key-requires
+    (λ c κs. search needs)
     (λ c. search needs)
     (λ c. search needs)
     loop-again

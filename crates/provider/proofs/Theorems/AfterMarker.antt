@@ -17,8 +17,9 @@ use Rattle.account_keys.specs.Keys.{held, member, used}
 use Rattle.account_keys.specs.declared.AccountKey.{AccountKey}
 use Rattle.account_keys.specs.declared.AccountKeys.{AccountKeys}
 use Rattle.basics.specs.Answers.{answerNumber}
-use Rattle.key_based.proofs.Deciding.{Way, locked, unasked, no-fit, spent, taken, decided-way}
+use Rattle.key_based.proofs.Deciding.{Way, locked, awaited, unasked, no-fit, spent, taken, decided-way}
 use Rattle.key_based.specs.Decision.{asked, usedIn, decided}
+use Rattle.key_based.specs.declared.Context.{Context}
 use Rattle.key_based.specs.declared.Decision.{Decision}
 use Rattle.key_based.specs.declared.Search.{Search}
 use Rattle.pairing.proofs.SessionSteps.{idle-step}
@@ -34,7 +35,6 @@ use Rattle.provider.specs.Demands.Validity.{Valid}
 use Rattle.provider.specs.Rules.Device.{Effect, clockStep}
 use Rattle.provider.specs.Rules.Event.{DeviceEvent, PairingMode, AddressRotated, FactoryReset, LinkEvent, LinkUp, LinkDown, KeyBasedWrite, OnSession, Event, OnDevice, OnLink, contextOf, requested, onDevice, onLink, next}
 use Rattle.provider.specs.declared.Device.{Device}
-use Rattle.request_guard.specs.declared.Guard.{Guard}
 use Rattle.sessions.specs.Sessions.{linkCount, idle, absentSession, sessionAt, atClock}
 use Rattle.sessions.specs.declared.Session.{Session}
 use Rattle.sessions.specs.declared.Stage.the-variants.{Idle}
@@ -124,13 +124,14 @@ module _ (d : Device) (l m t : ℕ) (v : keys.Valid (d .keys)) (i : IdleAt l d) 
   link-session e = subst (λ (k : ℕ). sessionAt (d .sessions) k .stage ≡ Idle) (sym e) i
 
   -- a request: its link holds K only if it is accepted
-  decision-next : {g : Guard} {uses : Bool} {f : Search} {r : Decision} → Way g (sessionAt (d .sessions) m) t uses f r
+  decision-next : {c : Context} {uses : Bool} {f : Search} {r : Decision} → Way c (sessionAt (d .sessions) m) t uses f r
       → (((eqb m l and true) ≡ true) × (answerNumber (r .answer) ≡ 0)) ⊎ IdleAt l (requested d m r .next)
   decision-next locked = inr (set-idle (d .sessions .links) m l _ link-session i)
+  decision-next awaited = inr (set-idle (d .sessions .links) m l _ link-session i)
   decision-next unasked = inr (set-idle (d .sessions .links) m l _ link-session i)
-  decision-next (no-fit h) = inr (set-idle (d .sessions .links) m l _ link-session i)
+  decision-next (no-fit h a) = inr (set-idle (d .sessions .links) m l _ link-session i)
   decision-next spent = inr (set-idle (d .sessions .links) m l _ link-session i)
-  decision-next {f = f} (taken h p) = go (eqb m l) refl
+  decision-next {f = f} (taken h p a) = go (eqb m l) refl
     where
       go : (b : Bool) → eqb m l ≡ b
           → (((eqb m l and true) ≡ true) × (_≡_ {A = ℕ} 0 0))

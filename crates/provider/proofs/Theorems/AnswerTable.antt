@@ -14,8 +14,9 @@ use Rattle.account_keys.specs.declared.ListForm.{ListForm}
 use Rattle.account_keys.specs.declared.ListForm.the-variants.{WellFormed, Malformed}
 use Rattle.basics.specs.Answers.{answerNumber, isTaken}
 use Rattle.basics.specs.declared.Answer.{Answer}
-use Rattle.basics.specs.declared.Answer.the-variants.{Taken, UnknownLink, WrongLength, PasskeyTooLarge, ClockWentBack, OutputTooShort, ListMalformed, LinkIdle, WrongStage, CapabilityRefused, BadBlock, NameRefused, LockedOut, NotInPairingMode, NoKeyFits, SaltSpent}
+use Rattle.basics.specs.declared.Answer.the-variants.{Taken, UnknownLink, WrongLength, PasskeyTooLarge, ClockWentBack, OutputTooShort, ListMalformed, LinkIdle, WrongStage, CapabilityRefused, BadBlock, NameRefused, LockedOut, NotInPairingMode, NoKeyFits, SaltSpent, RotationAwaited}
 use Rattle.key_based.specs.Decision.{refused, accepted, saltKnown, settled, triedKeys, unwanted, usesKey, decided}
+use Rattle.key_based.specs.Named.{fits}
 use Rattle.key_based.specs.Request.{sized}
 use Rattle.key_based.specs.declared.Context.{Context}
 use Rattle.key_based.specs.declared.Element.{Element}
@@ -103,29 +104,31 @@ told-session (NameWrite packet) t s =
 
 -- ---- events on a link
 
--- answers 5 to 8
+-- answers 5, 16, 6, 7 and 8
 told-request : (c : Context) (s : Session) (t : ℕ) (element : Element) (request : List ℕ)
     → answerNumber (decided c s t element request .answer)
-    ≡ firstGiven (row 5 (locked (c .guard)) ∷ row 6 (unwanted c request)
-    ∷ row 7 (not (triedKeys c element request .found))
+    ≡ firstGiven (row 5 (locked (c .guard)) ∷ row 16 (c .wait .on) ∷ row 6 (unwanted c request)
+    ∷ row 7 (not (fits (triedKeys c element request .named)))
     ∷ row 8 (saltKnown (c .guard) (triedKeys c element request)) ∷ [])
 unfolding decided settled firstGiven
 told-request c s t element request =
-    go (locked (c .guard)) (unwanted c request) (triedKeys c element request .found)
+    go (locked (c .guard)) (c .wait .on) (unwanted c request) (fits (triedKeys c element request .named))
     (saltKnown (c .guard) (triedKeys c element request))
   where
-    go : (x y z w : Bool)
+    go : (x v y z w : Bool)
         → answerNumber ((if x then refused (c .guard) s LockedOut 0 else
+        if v then refused (c .guard) s RotationAwaited 0 else
         if y then refused (c .guard) s NotInPairingMode 0 else
         if not z then refused (failedAt t (c .guard)) s NoKeyFits (triedKeys c element request .tried) else
         if w then refused (c .guard) s SaltSpent (triedKeys c element request .tried) else
         accepted (c .guard) t (usesKey request) (triedKeys c element request)) .answer)
-        ≡ (if x then 5 else if y then 6 else if not z then 7 else if w then 8 else 0)
-    go true y z w = refl
-    go false true z w = refl
-    go false false false w = refl
-    go false false true true = refl
-    go false false true false = refl
+        ≡ (if x then 5 else if v then 16 else if y then 6 else if not z then 7 else if w then 8 else 0)
+    go true v y z w = refl
+    go false true y z w = refl
+    go false false true z w = refl
+    go false false false false w = refl
+    go false false false true true = refl
+    go false false false true false = refl
 
 told-after-clock : (e : LinkEvent) (d : Device) (l t : ℕ)
     → answerNumber (onLink e d l t .gives .reply .answer) ≡ firstGiven (rowsAfterClock e d l)

@@ -19,8 +19,9 @@ use Rattle.account_keys.specs.declared.ListForm.the-variants.{WellFormed, Malfo
 use Rattle.advertising.specs.Beacon.{refreshed}
 use Rattle.basics.specs.Answers.{answerNumber, isTaken}
 use Rattle.basics.specs.declared.Answer.{Answer}
-use Rattle.basics.specs.declared.Answer.the-variants.{Taken, UnknownLink, ClockWentBack, ListMalformed, LinkIdle, LockedOut, NotInPairingMode, NoKeyFits, SaltSpent}
+use Rattle.basics.specs.declared.Answer.the-variants.{Taken, UnknownLink, ClockWentBack, ListMalformed, LinkIdle, LockedOut, NotInPairingMode, NoKeyFits, SaltSpent, RotationAwaited}
 use Rattle.key_based.specs.Decision.{refused, accepted, saltKnown, settled, triedKeys, unwanted, usesKey, decided, outputsOf}
+use Rattle.key_based.specs.Named.{fits}
 use Rattle.key_based.specs.declared.Decision.{Decision}
 use Rattle.key_based.specs.declared.Element.{Element}
 use Rattle.key_based.specs.declared.Search.{Search}
@@ -35,7 +36,7 @@ use Rattle.provider.proofs.Theorems.SessionPairs.{SameOrIdle, same, sec
 use Rattle.provider.proofs.Theorems.ValidParts.{no-keys-valid}
 use Rattle.provider.proofs.Theorems.Validity.{stored-valid, used-valid}
 use Rattle.provider.specs.Demands.Gap.{writesKey, writesName}
-use Rattle.provider.specs.Rules.Control.{started, named, byForm, powerOn}
+use Rattle.provider.specs.Rules.Control.{started, byName, byForm, powerOn}
 use Rattle.provider.specs.Rules.Device.{Effect, replyOf, answers, takes, dropAll, withSessions, withKeys, withBeacon, withName, withLink, clockStep, inTime, onKnownLink}
 use Rattle.provider.specs.Rules.Event.{DeviceEvent, PairingMode, AddressRotated, FactoryReset, LinkEvent, LinkUp, LinkDown, KeyBasedWrite, OnSession, Event, Overflow, PowerOn, OnDevice, OnLink, lent, early, contextOf, requested, applied, onDevice, onLink, step}
 use Rattle.provider.specs.declared.Device.{Device}
@@ -147,8 +148,8 @@ power-on-pairs stored name start = record { paired = λ d ss b. go d ss b (readi
   where
     go : (d : Device) (ss : Sessions) → Before d ss → (f : ListForm) → reading stored .form ≡ f
         → Paired (d .keys) (PowerOn stored name start)
-        (byForm f (named d (reading stored .keys) name start) (answers d ListMalformed []))
-        (byForm f (named (withSessions d ss) (reading stored .keys) name start)
+        (byForm f (byName d (reading stored .keys) name start) (answers d ListMalformed []))
+        (byForm f (byName (withSessions d ss) (reading stored .keys) name start)
         (answers (withSessions d ss) ListMalformed []))
     go d ss b WellFormed e =
         paired-if (isName name)
@@ -213,13 +214,14 @@ request-pairs : (l t : ℕ) (request : List ℕ) (element : Element) (salt nonce
     (λ d. onLink (KeyBasedWrite request element salt nonce out packet) d l t)
 unfolding decided settled
 request-pairs l t request element salt nonce out packet = record {
-  paired = λ d ss b. go d ss b (locked (d .guard)) (unwanted (contextOf d) request)
-      (triedKeys (contextOf d) element request .found) (saltKnown (d .guard) (triedKeys (contextOf d) element request));
+  paired = λ d ss b. go d ss b (locked (d .guard)) (d .wait .on) (unwanted (contextOf d) request)
+      (fits (triedKeys (contextOf d) element request .named)) (saltKnown (d .guard) (triedKeys (contextOf d) element request));
 }
   where
-    go : (d : Device) (ss : Sessions) (b : Before d ss) (x y z w : Bool)
+    go : (d : Device) (ss : Sessions) (b : Before d ss) (x v y z w : Bool)
         → BothDecide l t request element salt nonce out packet d ss b
         (if x then refused (d .guard) (sessionAt (d .sessions) l) LockedOut 0 else
+        if v then refused (d .guard) (sessionAt (d .sessions) l) RotationAwaited 0 else
         if y then refused (d .guard) (sessionAt (d .sessions) l) NotInPairingMode 0 else
         if not z then refused (failedAt t (d .guard)) (sessionAt (d .sessions) l) NoKeyFits
         (triedKeys (contextOf d) element request .tried) else
@@ -227,18 +229,21 @@ request-pairs l t request element salt nonce out packet = record {
         (triedKeys (contextOf d) element request .tried) else
         accepted (d .guard) t (usesKey request) (triedKeys (contextOf d) element request))
         (if x then refused (d .guard) (sessionAt ss l) LockedOut 0 else
+        if v then refused (d .guard) (sessionAt ss l) RotationAwaited 0 else
         if y then refused (d .guard) (sessionAt ss l) NotInPairingMode 0 else
         if not z then refused (failedAt t (d .guard)) (sessionAt ss l) NoKeyFits
         (triedKeys (contextOf d) element request .tried) else
         if w then refused (d .guard) (sessionAt ss l) SaltSpent (triedKeys (contextOf d) element request .tried) else
         accepted (d .guard) t (usesKey request) (triedKeys (contextOf d) element request))
-    go d ss b true y z w = refused-pair l t request element salt nonce out packet d ss b (d .guard) LockedOut 0 refl
-    go d ss b false true z w = refused-pair l t request element salt nonce out packet d ss b (d .guard) NotInPairingMode 0 refl
-    go d ss b false false false w = refused-pair l t request element salt nonce out packet d ss b (failedAt t (d .guard)) NoKeyFits
+    go d ss b true v y z w = refused-pair l t request element salt nonce out packet d ss b (d .guard) LockedOut 0 refl
+    go d ss b false true y z w = refused-pair l t request element salt nonce out packet d ss b (d .guard) RotationAwaited 0 refl
+    go d ss b false false true z w = refused-pair l t request element salt nonce out packet d ss b (d .guard) NotInPairingMode 0
+        refl
+    go d ss b false false false false w = refused-pair l t request element salt nonce out packet d ss b (failedAt t (d .guard))
+        NoKeyFits (triedKeys (contextOf d) element request .tried) refl
+    go d ss b false false false true true = refused-pair l t request element salt nonce out packet d ss b (d .guard) SaltSpent
         (triedKeys (contextOf d) element request .tried) refl
-    go d ss b false false true true = refused-pair l t request element salt nonce out packet d ss b (d .guard) SaltSpent
-        (triedKeys (contextOf d) element request .tried) refl
-    go d ss b false false true false = accepted-pair l t request element salt nonce out packet d ss b (d .guard)
+    go d ss b false false false true false = accepted-pair l t request element salt nonce out packet d ss b (d .guard)
         (usesKey request) (triedKeys (contextOf d) element request)
 
 -- ---- pairing, passkey and account key events, and the name write

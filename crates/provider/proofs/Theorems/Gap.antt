@@ -14,6 +14,7 @@ use Rattle.basics.specs.declared.Answer.the-variants.{Taken, ListMalformed}
 use Rattle.names.specs.Name.{nameOf, textOf}
 use Rattle.provider.proofs.Theorems.AfterMarker.{after-markers}
 use Rattle.provider.proofs.Theorems.EventPairs.{Related, Parted, Paired, before-started, step-pairs}
+use Rattle.provider.proofs.Theorems.Rotation.{wait-alike}
 use Rattle.provider.proofs.Theorems.SessionPairs.{each-idle}
 use Rattle.provider.proofs.Theorems.Stores.{stores-none}
 use Rattle.provider.proofs.Theorems.Validity.{starts-valid}
@@ -25,6 +26,7 @@ use Rattle.provider.specs.Rules.Device.{Effect}
 use Rattle.provider.specs.Rules.Event.{Event, Overflow, PowerOn, step, next, answerOf}
 use Rattle.provider.specs.declared.Device.{Device}
 use Rattle.provider.specs.declared.Start.{Start}
+use Rattle.request_guard.specs.declared.wait.RotationWait.{RotationWait}
 
 -- ---- one event
 
@@ -37,8 +39,12 @@ same-written : {d c : Device} → Related d c → written c ≡ written d
 same-written r = ap (λ (ks : AccountKeys). writing (held ks)) (same-keys r)
 
 -- and have the same name
-same-named : {d c : Device} → Related d c → textOf (c .name) ≡ textOf (d .name)
-same-named r = ap (λ (x : Device). textOf (x .name)) (r .same)
+same-name : {d c : Device} → Related d c → textOf (c .name) ≡ textOf (d .name)
+same-name r = ap (λ (x : Device). textOf (x .name)) (r .same)
+
+-- and wait for a rotation alike
+same-wait : {d c : Device} → Related d c → d .wait ≡ c .wait
+same-wait r = ap (λ (x : Device). x .wait) (sym (r .same))
 
 -- where the runs go on together, both store the same
 stores-same : (d c : Device) (e : Event) → Related d c → Related (next d e) (next c e) → (k : AccountKey)
@@ -83,7 +89,9 @@ two-runs (added m) d c r = two-runs m d (next c Overflow) (marker-added d c r)
 two-runs (same e m) d c r =
     let a : Paired (d .keys) e (step d e) (step c e) = paired d c e r in (
       compared d c e r a,
-      ⊎-elim (λ q. inr (sym (same-written q), sym (same-named q), two-runs m (next d e) (next c e) q))
+      ap (λ (w : RotationWait). w .on)
+          (⊎-elim same-wait (λ p. wait-alike d c e (p .writes) (same-wait r)) (a .next)),
+      ⊎-elim (λ q. inr (sym (same-written q), sym (same-name q), two-runs m (next d e) (next c e) q))
           (λ p. inl (p .writes, p .first, p .second))
           (a .next),
     )

@@ -8,7 +8,8 @@ use Rattle.laws.proofs.All.{all-get, all-replicate}
 use Rattle.laws.proofs.Choice.{true-is}
 use Rattle.basics.specs.Answers.{isTaken}
 use Rattle.basics.specs.declared.Answer.{Answer}
-use Rattle.key_based.proofs.Deciding.{Way, locked, unasked, no-fit, spent, taken, decided-way}
+use Rattle.key_based.proofs.Deciding.{Way, locked, awaited, unasked, no-fit, spent, taken, decided-way}
+use Rattle.key_based.specs.declared.Context.{Context}
 use Rattle.key_based.specs.declared.Decision.{Decision}
 use Rattle.key_based.specs.declared.Search.{Search}
 use Rattle.pairing.proofs.SessionSteps.{OnSessions, step-lawful}
@@ -20,7 +21,6 @@ use Rattle.provider.specs.Demands.LinksApart.{otherSession, LinksApart}
 use Rattle.provider.specs.Rules.Device.{Effect, clockStep}
 use Rattle.provider.specs.Rules.Event.{LinkEvent, LinkUp, LinkDown, KeyBasedWrite, OnSession, OnLink, early, contextOf, requested, onLink}
 use Rattle.provider.specs.declared.Device.{Device}
-use Rattle.request_guard.specs.declared.Guard.{Guard}
 use Rattle.sessions.proofs.Laws.{expired-at, other-link}
 use Rattle.sessions.specs.Sessions.{linkCount, idle, absentSession, allIdle, sessionAt, withSession, atClock, expired}
 use Rattle.sessions.specs.declared.Session.{Session}
@@ -45,13 +45,14 @@ module _ (d : Device) {l m : ℕ} (t : ℕ) (h : m ≡ l → ⊥) where
   stepped s = other-link (expired t (d .sessions)) m l s h ∙ expired-at t (d .sessions) l
 
   -- answers 0 and 5 to 8
-  decision-apart : {g : Guard} {u : Session} {uses : Bool} {f : Search} {r : Decision} → Way g u t uses f r
+  decision-apart : {c : Context} {u : Session} {uses : Bool} {f : Search} {r : Decision} → Way c u t uses f r
       → sessionAt (requested (clockStep t d) m r .next .sessions) l ≡ otherSession (r .answer) t (sessionAt (d .sessions) l)
   decision-apart locked = stepped _
+  decision-apart awaited = stepped _
   decision-apart unasked = stepped _
-  decision-apart (no-fit e) = stepped _
+  decision-apart (no-fit e a) = stepped _
   decision-apart spent = stepped _
-  decision-apart (taken f p) = stepped _
+  decision-apart (taken f p a) = stepped _
 
   -- answers 0, 9 to 12 and 15
   late : {a : Answer} → OnSessions a → (s : Session) → atClock t s ≡ otherSession a t s

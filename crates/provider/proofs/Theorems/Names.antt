@@ -15,10 +15,11 @@ use Rattle.additional_data.specs.Packet.{sealed, packetSize, packetSized}
 use Rattle.account_keys.specs.declared.AccountKeys.{AccountKeys}
 use Rattle.basics.proofs.Answers.{unlike}
 use Rattle.basics.specs.Answers.{isTaken}
-use Rattle.basics.specs.declared.Answer.the-variants.{Taken, UnknownLink, ClockWentBack, LockedOut, NotInPairingMode, NoKeyFits, SaltSpent}
-use Rattle.key_based.proofs.Deciding.{Way, locked, unasked, no-fit, spent, taken, decided-way}
+use Rattle.basics.specs.declared.Answer.the-variants.{Taken, UnknownLink, ClockWentBack, LockedOut, NotInPairingMode, NoKeyFits, SaltSpent, RotationAwaited}
+use Rattle.key_based.proofs.Deciding.{Way, locked, awaited, unasked, no-fit, spent, taken, decided-way}
 use Rattle.key_based.specs.Decision.{asked, accepted, usedIn, packetTo, packetLength}
 use Rattle.key_based.specs.Request.{nameAsked}
+use Rattle.key_based.specs.declared.Context.{Context}
 use Rattle.key_based.specs.declared.Decision.{Decision}
 use Rattle.key_based.specs.declared.Search.{Search}
 use Rattle.names.proofs.ValidNames.{valid-is-name}
@@ -38,10 +39,11 @@ use Rattle.provider.proofs.Theorems.Ways.{way}
 use Rattle.provider.specs.Demands.Gap.{writesName}
 use Rattle.provider.specs.Demands.Names.{setsName, NameKept, nameWritten, sessionThen, PacketReads, sentBy, PacketComesBack}
 use Rattle.provider.specs.Demands.Validity.{Valid}
-use Rattle.provider.specs.Rules.Device.{Effect, takes, withKeys, withName, withGuard, withLink, clockStep}
+use Rattle.provider.specs.Rules.Device.{Effect, takes, withKeys, withName, withGuard, withWait, withLink, clockStep}
 use Rattle.provider.specs.Rules.Event.{DeviceEvent, PairingMode, AddressRotated, FactoryReset, LinkEvent, LinkUp, LinkDown, KeyBasedWrite, OnSession, OnDevice, OnLink, contextOf, requested, applied, nameSize, onDevice, onLink, step}
 use Rattle.provider.specs.declared.Device.{Device}
 use Rattle.request_guard.specs.declared.Guard.{Guard}
+use Rattle.request_guard.specs.declared.wait.RotationWait.{RotationWait}
 use Rattle.sessions.proofs.Laws.{atClock-in-time, expired-at}
 use Rattle.sessions.specs.Sessions.{isStage, sessionAt, absentSession, linkCount, atClock}
 use Rattle.sessions.specs.declared.Session.{Session}
@@ -104,10 +106,11 @@ sent-packet key nonce text rest eight =
     take-at (sealed key nonce text) rest (16 + length text) (sealed-length key nonce text eight)
 
 -- link l was given a session that began at moment t: in time it is still the one
-module _ (c : Device) (l t u : ℕ) (known : l < linkCount) (v : Valid c) (g : Guard) (key : List ℕ) where
+module _ (c : Device) (l t u : ℕ) (known : l < linkCount) (v : Valid c) (g : Guard) (w : RotationWait)
+    (key : List ℕ) where
   -- the device that the request left
   abbrev after : Device
-  after = withLink (withGuard c g) l (asked key t)
+  after = withLink (withWait (withGuard c g) w) l (asked key t)
 
   still-asked : u < t + 10000 → sessionThen after l u ≡ asked key t
   unfolding clockStep
@@ -141,28 +144,29 @@ module _ (c : Device) (l t u : ℕ) (known : l < linkCount) (v : Valid c) (nonce
       (nameWritten l u (take (packetLength (r .sends) (c .name)) (packetTo (r .sends) (r .session .key) (c .name) nonce packet)))
       ≡ takes (clockStep u (requested c l r .next))
 
-  decision-back : {g : Guard} {s : Session} {uses : Bool} {f : Search} {r : Decision} → Way g s t uses f r → r .answer ≡ Taken
+  decision-back : {x : Context} {s : Session} {uses : Bool} {f : Search} {r : Decision} → Way x s t uses f r → r .answer ≡ Taken
       → 0 < packetLength (r .sends) (c .name) → Back r
   decision-back locked e n = absurd (unlike LockedOut Taken tt e)
+  decision-back awaited e n = absurd (unlike RotationAwaited Taken tt e)
   decision-back unasked e n = absurd (unlike NotInPairingMode Taken tt e)
-  decision-back (no-fit h) e n = absurd (unlike NoKeyFits Taken tt e)
+  decision-back (no-fit h a) e n = absurd (unlike NoKeyFits Taken tt e)
   decision-back spent e n = absurd (unlike SaltSpent Taken tt e)
-  decision-back {g} {s} {uses} {f} (taken h p) e n = go (nameAsked (f .plain)) n
+  decision-back {x} {s} {uses} {f} (taken h p a) e n = go (nameAsked (f .plain)) n
     where
       ks : AccountKeys
       ks = usedIn uses (f .key) (c .keys)
 
       go : (b : Bool) → 0 < (if b then packetSize (c .name) else 0)
-          → step (requested c l (accepted g t uses f) .next) (nameWritten l u
+          → step (requested c l (accepted (x .guard) t uses f) .next) (nameWritten l u
           (take (if b then packetSize (c .name) else 0)
           (if b then sealed (f .key) nonce (textOf (c .name)) ++ drop (packetSize (c .name)) packet else packet)))
-          ≡ takes (clockStep u (requested c l (accepted g t uses f) .next))
+          ≡ takes (clockStep u (requested c l (accepted (x .guard) t uses f) .next))
       go false n = absurd (omega (arith, n))
       go true n =
-          ap (λ (p : List ℕ). step (requested c l (accepted g t uses f) .next) (nameWritten l u p))
+          ap (λ (p : List ℕ). step (requested c l (accepted (x .guard) t uses f) .next) (nameWritten l u p))
           (sent-packet (f .key) nonce (textOf (c .name)) (drop (packetSize (c .name)) packet) eight)
           ∙ comes-back (withKeys c ks) l t u known (keys-valid v ks (used-valid uses (f .key) (c .keys) (v .keys)))
-          (accepted g t uses f .guard) (f .key) nonce eight on soon
+          (accepted (x .guard) t uses f .guard) _ (f .key) nonce eight on soon
 
 pub packet-comes-back : PacketComesBack
 unfolding clockStep

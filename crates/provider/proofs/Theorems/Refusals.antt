@@ -13,11 +13,13 @@ use Rattle.additional_data.specs.Packet.{packetSized}
 use Rattle.basics.specs.Answers.{isTaken, isOneOf}
 use Rattle.basics.specs.declared.Answer.{Answer}
 use Rattle.basics.specs.declared.Answer.the-variants.{Taken, WrongLength, PasskeyTooLarge, OutputTooShort}
-use Rattle.key_based.proofs.Deciding.{Way, locked, unasked, no-fit, spent, taken, decided-way, outputs-kept}
+use Rattle.key_based.proofs.Deciding.{Way, locked, awaited, unasked, no-fit, spent, taken, decided-way, outputs-kept}
 use Rattle.key_based.specs.Decision.{triedKeys, usesKey, decided}
 use Rattle.key_based.specs.Request.{sized}
 use Rattle.key_based.specs.declared.Decision.{Decision}
 use Rattle.key_based.specs.declared.Element.{Element}
+use Rattle.key_based.specs.declared.named.Named.{Named}
+use Rattle.key_based.specs.declared.named.Named.the-variants.{Neither}
 use Rattle.pairing.proofs.SessionSteps.{OnSessions, refusedSession, step-lawful, refusal-leaves}
 use Rattle.pairing.proofs.SessionSteps as session-answer
 use Rattle.pairing.specs.Pairing.{PairingEvent, PairingStarted, ConfirmationNeeded, PasskeyWrite, PairingEnded, AccountKeyWrite, NameWrite, sessionStep}
@@ -25,7 +27,7 @@ use Rattle.pairing.specs.declared.SessionOutcome.{SessionOutcome}
 use Rattle.key_based.specs.Request.{noBond}
 use Rattle.provider.proofs.Theorems.Ways as event
 use Rattle.provider.proofs.Theorems.Ways.{way}
-use Rattle.provider.specs.Demands.Refusals.{changed, refusedNext, Refusals, triedIn, toldTried, NumberTried, refusing, RefusalsHandOutOnlyTried}
+use Rattle.provider.specs.Demands.Refusals.{changed, refusedNext, Refusals, searchIn, toldTried, NumberTried, toldNamed, AddressTold, refusing, RefusalsHandOutOnlyTried}
 use Rattle.provider.specs.Rules.Device.{Effect, clockStep, withSessions, withLink}
 use Rattle.provider.specs.Rules.Event.{LinkEvent, LinkUp, LinkDown, KeyBasedWrite, OnSession, Event, OnLink, lent, early, contextOf, requested, applied, onLink}
 use Rattle.provider.specs.declared.Device.{Device}
@@ -37,7 +39,8 @@ record Tells (d : Device) (e : Event) (x : Effect) : Type 0 where
   refusal : isTaken (x .gives .reply .answer) ≡ false
       → (x .leaves ≡ lent e) × (x .gives .next ≡ refusedNext (x .gives .reply .answer) d e)
       × (x .gives .reply ≡ refusing (x .gives .reply))
-  tried : x .gives .reply .tried ≡ toldTried (x .gives .reply .answer) (triedIn d e)
+  tried : x .gives .reply .tried ≡ toldTried (x .gives .reply .answer) (searchIn d e .tried)
+  named : x .gives .reply .named ≡ toldNamed (x .gives .reply .answer) (searchIn d e .named)
 
 -- a session put back leaves the device as it was
 pub same-link : (d : Device) (l : ℕ) → withLink d l (sessionAt (d .sessions) l) ≡ d
@@ -79,20 +82,25 @@ early-ways P p q r s (OnSession (NameWrite packet)) = go (packetSized packet)
     go true = p
     go false = q
 
--- an early refusal changes nothing, and tells no number of keys
+-- an early refusal changes nothing, and tells no number of keys and no address
 record Nothing (d : Device) (l t : ℕ) (a : Answer) : Type 0 where
   changes : isTaken a ≡ false → d ≡ changed a d l t
   tells : isTaken a ≡ false → (n : ℕ) → 0 ≡ toldTried a n
+  names : isTaken a ≡ false → (n : Named) → Neither ≡ toldNamed a n
 
 early-nothing : (d : Device) (l t : ℕ) (e : LinkEvent) → Nothing d l t (early e)
 early-nothing d l t =
     early-ways (Nothing d l t)
-    (record { changes = λ h. absurd (true-is (sym h)); tells = λ h n. absurd (true-is (sym h)) })
-    (record { changes = λ h. refl; tells = λ h n. refl })
-    (record { changes = λ h. refl; tells = λ h n. refl })
-    (record { changes = λ h. refl; tells = λ h n. refl })
+    (record {
+      changes = λ h. absurd (true-is (sym h));
+      tells = λ h n. absurd (true-is (sym h));
+      names = λ h n. absurd (true-is (sym h));
+    })
+    (record { changes = λ h. refl; tells = λ h n. refl; names = λ h n. refl })
+    (record { changes = λ h. refl; tells = λ h n. refl; names = λ h n. refl })
+    (record { changes = λ h. refl; tells = λ h n. refl; names = λ h n. refl })
 
--- ---- answers 5 to 8
+-- ---- answers 5 to 8 and 16
 
 module _ (d : Device) (l t : ℕ) (request : List ℕ) (element : Element) where
   -- a decision's outcome
@@ -101,19 +109,22 @@ module _ (d : Device) (l t : ℕ) (request : List ℕ) (element : Element) where
     reply : isTaken (r .answer) ≡ false
         → requested (clockStep t d) l r .reply ≡ refusing (requested (clockStep t d) l r .reply)
     tried : r .tried ≡ toldTried (r .answer) (triedKeys (contextOf (clockStep t d)) element request .tried)
+    named : r .named ≡ toldNamed (r .answer) (triedKeys (contextOf (clockStep t d)) element request .named)
 
   decides : {r : Decision}
-      → Way (clockStep t d .guard) (sessionAt (clockStep t d .sessions) l) t (usesKey request)
+      → Way (contextOf (clockStep t d)) (sessionAt (clockStep t d .sessions) l) t (usesKey request)
       (triedKeys (contextOf (clockStep t d)) element request) r
       → Decides r
-  decides locked = record { next = λ _. same-link (clockStep t d) l; reply = λ _. refl; tried = refl }
-  decides unasked = record { next = λ _. same-link (clockStep t d) l; reply = λ _. refl; tried = refl }
-  decides (no-fit h) = record { next = λ _. same-link _ l; reply = λ _. refl; tried = refl }
-  decides spent = record { next = λ _. same-link (clockStep t d) l; reply = λ _. refl; tried = refl }
-  decides (taken h p) = record {
+  decides locked = record { next = λ _. same-link (clockStep t d) l; reply = λ _. refl; tried = refl; named = refl }
+  decides awaited = record { next = λ _. same-link (clockStep t d) l; reply = λ _. refl; tried = refl; named = refl }
+  decides unasked = record { next = λ _. same-link (clockStep t d) l; reply = λ _. refl; tried = refl; named = refl }
+  decides (no-fit h a) = record { next = λ _. same-link _ l; reply = λ _. refl; tried = refl; named = refl }
+  decides spent = record { next = λ _. same-link (clockStep t d) l; reply = λ _. refl; tried = refl; named = refl }
+  decides (taken h p a) = record {
     next = λ e. absurd (true-is (sym e));
     reply = λ e. absurd (true-is (sym e));
     tried = refl;
+    named = refl;
   }
 
 -- ---- answers 9 to 12 and 15
@@ -146,6 +157,7 @@ module _ (d : Device) (l t : ℕ) where
         λ i. record {
           answer = sessionStep e t (sessionAt (clockStep t d .sessions) l) .answer;
           tried = 0;
+          named = Neither;
           bond = noBond;
           confirm = p .refusal h i .confirm;
           packet = 0;
@@ -154,8 +166,8 @@ module _ (d : Device) (l t : ℕ) where
 -- ---- every event
 
 told-on-link : (d : Device) (l t : ℕ) (e : LinkEvent) → Tells d (OnLink l t e) (onLink e (clockStep t d) l t)
-told-on-link d l t LinkUp = record { refusal = λ h. absurd (true-is (sym h)); tried = refl }
-told-on-link d l t LinkDown = record { refusal = λ h. absurd (true-is (sym h)); tried = refl }
+told-on-link d l t LinkUp = record { refusal = λ h. absurd (true-is (sym h)); tried = refl; named = refl }
+told-on-link d l t LinkDown = record { refusal = λ h. absurd (true-is (sym h)); tried = refl; named = refl }
 told-on-link d l t (KeyBasedWrite request element salt nonce out packet) =
     let c = contextOf (clockStep t d) in
     let s = sessionAt (clockStep t d .sessions) l in
@@ -165,6 +177,7 @@ told-on-link d l t (KeyBasedWrite request element salt nonce out packet) =
     record {
       refusal = λ h. (outputs-kept c salt nonce out packet way h, p .next h, p .reply h);
       tried = p .tried;
+      named = p .named;
     }
 told-on-link d l t (OnSession e) = record {
   refusal = λ h. (
@@ -172,22 +185,24 @@ told-on-link d l t (OnSession e) = record {
     session-next d l t e h,
     session-reply d l t e h,
   );
-  -- no key is tried: told is 0, whatever the answer
+  -- no key is tried: told are 0 and neither, whatever the answer
+  named = sym (if-same (isTaken (sessionStep e t (sessionAt (clockStep t d .sessions) l) .answer)) (λ _. refl));
   tried = sym (if-same (isOneOf (0 ∷ 7 ∷ 8 ∷ []) (sessionStep e t (sessionAt (clockStep t d .sessions) l) .answer)) (λ _. refl));
 }
 
 told : (d : Device) {e : Event} {x : Effect} → event.Way d e x → Tells d e x
-told d event.marker = record { refusal = λ h. absurd (true-is (sym h)); tried = refl }
-told d (event.powered-on stored name start h n) = record { refusal = λ h. absurd (true-is (sym h)); tried = refl }
-told d (event.malformed stored name start) = record { refusal = λ h. (refl, refl, refl); tried = refl }
-told d (event.device-late t e) = record { refusal = λ h. (refl, refl, refl); tried = refl }
-told d (event.device-changed t e) = record { refusal = λ h. absurd (true-is (sym h)); tried = refl }
-told d (event.unknown-link l t e) = record { refusal = λ h. (refl, refl, refl); tried = refl }
+told d event.marker = record { refusal = λ h. absurd (true-is (sym h)); tried = refl; named = refl }
+told d (event.powered-on stored name start h n) = record { refusal = λ h. absurd (true-is (sym h)); tried = refl; named = refl }
+told d (event.malformed stored name start) = record { refusal = λ h. (refl, refl, refl); tried = refl; named = refl }
+told d (event.device-late t e) = record { refusal = λ h. (refl, refl, refl); tried = refl; named = refl }
+told d (event.device-changed t e) = record { refusal = λ h. absurd (true-is (sym h)); tried = refl; named = refl }
+told d (event.unknown-link l t e) = record { refusal = λ h. (refl, refl, refl); tried = refl; named = refl }
 told d (event.refused-early l t e h) = record {
   refusal = λ _. (refl, early-nothing d l t e .changes h, refl);
-  tried = early-nothing d l t e .tells h (triedIn d (OnLink l t e));
+  tried = early-nothing d l t e .tells h (searchIn d (OnLink l t e) .tried);
+  named = early-nothing d l t e .names h (searchIn d (OnLink l t e) .named);
 }
-told d (event.link-late l t e) = record { refusal = λ h. (refl, refl, refl); tried = refl }
+told d (event.link-late l t e) = record { refusal = λ h. (refl, refl, refl); tried = refl; named = refl }
 told d (event.on-link l t e k) = told-on-link d l t e
 
 pub refusals : Refusals
@@ -195,6 +210,9 @@ refusals d e h = let r = told d (way d e) .refusal h in (r .0, r .1)
 
 pub number-tried : NumberTried
 number-tried d e = told d (way d e) .tried
+
+pub address-told : AddressTold
+address-told d e = told d (way d e) .named
 
 pub refusals-hand-out-only-tried : RefusalsHandOutOnlyTried
 refusals-hand-out-only-tried d e h = told d (way d e) .refusal h .2

@@ -13,11 +13,12 @@ use Rattle.account_keys.specs.Keys.{zeroKey, held, kept, used, stored}
 use Rattle.account_keys.specs.declared.AccountKeys.{AccountKeys}
 use Rattle.basics.proofs.Answers.{unlike}
 use Rattle.basics.specs.Answers.{isTaken}
-use Rattle.basics.specs.declared.Answer.the-variants.{Taken, UnknownLink, ClockWentBack, LockedOut, NotInPairingMode, NoKeyFits, SaltSpent}
-use Rattle.key_based.proofs.Deciding.{Way, locked, unasked, no-fit, spent, taken, decided-way}
+use Rattle.basics.specs.declared.Answer.the-variants.{Taken, UnknownLink, ClockWentBack, LockedOut, NotInPairingMode, NoKeyFits, SaltSpent, RotationAwaited}
+use Rattle.key_based.proofs.Deciding.{Way, locked, awaited, unasked, no-fit, spent, taken, decided-way}
 use Rattle.key_based.proofs.FirstThatFits.{told-key}
 use Rattle.key_based.specs.Decision.{asked, triedKeys, usesKey, usedIn}
 use Rattle.key_based.specs.Request.{hasPublicKey}
+use Rattle.key_based.specs.declared.Context.{Context}
 use Rattle.key_based.specs.declared.Decision.{Decision}
 use Rattle.key_based.specs.declared.Element.{Element}
 use Rattle.key_based.specs.declared.Search.{Search}
@@ -32,20 +33,20 @@ use Rattle.provider.specs.Demands.Validity.{Valid}
 use Rattle.provider.specs.Rules.Device.{Effect, clockStep}
 use Rattle.provider.specs.Rules.Event.{DeviceEvent, PairingMode, AddressRotated, FactoryReset, LinkEvent, LinkUp, LinkDown, KeyBasedWrite, OnSession, OnDevice, OnLink, contextOf, requested, onDevice, onLink, next}
 use Rattle.provider.specs.declared.Device.{Device}
-use Rattle.request_guard.specs.declared.Guard.{Guard}
 use Rattle.sessions.specs.Sessions.{linkCount, absentSession, sessionAt}
 use Rattle.sessions.specs.declared.Session.{Session}
 
 -- ---- what changes the list
 
 -- a request uses a key only if it has 16 bytes and gets 0
-decision-keeps : (ks : AccountKeys) {g : Guard} {s : Session} {t : ℕ} {uses : Bool} {f : Search} {r : Decision}
-    → Way g s t uses f r → (uses and isTaken (r .answer)) ≡ false → usedIn (r .uses) (r .session .key) ks ≡ ks
+decision-keeps : (ks : AccountKeys) {c : Context} {s : Session} {t : ℕ} {uses : Bool} {f : Search} {r : Decision}
+    → Way c s t uses f r → (uses and isTaken (r .answer)) ≡ false → usedIn (r .uses) (r .session .key) ks ≡ ks
 decision-keeps ks locked h = refl
+decision-keeps ks awaited h = refl
 decision-keeps ks unasked h = refl
-decision-keeps ks (no-fit e) h = refl
+decision-keeps ks (no-fit e a) h = refl
 decision-keeps ks spent h = refl
-decision-keeps ks {uses = uses} (taken e p) h = rw (and-true-left uses h)
+decision-keeps ks {uses = uses} (taken e p a) h = rw (and-true-left uses h)
 
 keys-kept-on-link : (e : LinkEvent) (c : Device) (l t : ℕ)
     → (mayUse (OnLink l t e) and isTaken (onLink e c l t .gives .reply .answer)) ≡ false
@@ -74,13 +75,14 @@ keys-kept =
 module _ (c : Device) (l t : ℕ) (request : List ℕ) (element : Element) (outs : List (List ℕ)) (known : l < linkCount)
     (v : Valid c) (u : usesKey request ≡ true) where
   uses-told : {r : Decision}
-      → Way (c .guard) (sessionAt (c .sessions) l) t (usesKey request) (triedKeys (contextOf c) element request) r
+      → Way (contextOf c) (sessionAt (c .sessions) l) t (usesKey request) (triedKeys (contextOf c) element request) r
       → r .answer ≡ Taken → UsesToldKey c l (record { gives = requested c l r; leaves = outs })
   uses-told locked e = absurd (unlike LockedOut Taken tt e)
+  uses-told awaited e = absurd (unlike RotationAwaited Taken tt e)
   uses-told unasked e = absurd (unlike NotInPairingMode Taken tt e)
-  uses-told (no-fit h) e = absurd (unlike NoKeyFits Taken tt e)
+  uses-told (no-fit h a) e = absurd (unlike NoKeyFits Taken tt e)
   uses-told spent e = absurd (unlike SaltSpent Taken tt e)
-  uses-told (taken h p) e =
+  uses-told (taken h p a) e =
       let f = triedKeys (contextOf c) element request in
       let place = told-key (c .beacon .ble) (c .identity .public) (held (c .keys)) element request
       (not-true (hasPublicKey request) u) h in

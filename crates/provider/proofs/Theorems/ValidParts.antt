@@ -1,5 +1,6 @@
 -- A valid device stays valid when one of its parts is changed to a valid one.
 -- Assumes nothing.
+use mathlib.Core.Bool.{true}
 use mathlib.Core.List.{[]}
 use mathlib.Core.Path.{_∙_, _≡_, refl}
 use Prim.Native.Nat.{ℕ}
@@ -15,10 +16,13 @@ use Rattle.names.specs.Name as names
 use Rattle.names.specs.declared.Name.{Name}
 use Rattle.provider.specs.Rules.Control.{started, off}
 use Rattle.provider.specs.Demands.Validity.{Valid}
-use Rattle.provider.specs.Rules.Device.{withSessions, dropAt, withLink, withKeys, withGuard, withBeacon, withName, dropAll, clockStep}
+use Rattle.provider.specs.Rules.Device.{withSessions, dropAt, withLink, withKeys, withGuard, withWait, withBeacon, withName, dropAll, clockStep}
 use Rattle.provider.specs.declared.Device.{Device}
 use Rattle.provider.specs.declared.Start.{Start}
+use Rattle.request_guard.proofs.Uncounted.{clock-uncounted}
+use Rattle.request_guard.specs.Wait.{uncounted}
 use Rattle.request_guard.specs.declared.Guard.{Guard}
+use Rattle.request_guard.specs.declared.wait.RotationWait.{RotationWait}
 use Rattle.sessions.specs.Sessions.{Canonical, allIdle, expired, linkCount, idle}
 use Rattle.sessions.specs.declared.Session.{Session}
 use Rattle.sessions.specs.declared.Sessions.{Sessions}
@@ -45,24 +49,28 @@ no-keys-valid = kept-valid [] (omega arith) tt refl
 module _ {d : Device} (v : Valid d) where
   pub keys-valid : (ks : AccountKeys) → keys.Valid ks → Valid (withKeys d ks)
   keys-valid ks p =
-      record { keys = p; links = v .links; sessions = v .sessions; guard = v .guard; name = v .name }
+      record { keys = p; links = v .links; sessions = v .sessions; guard = v .guard; wait = v .wait; name = v .name }
 
-  pub guard-valid : (g : Guard) → guard.Valid g → Valid (withGuard d g)
-  guard-valid g p =
-      record { keys = v .keys; links = v .links; sessions = v .sessions; guard = p; name = v .name }
+  pub guard-valid : (g : Guard) → guard.Valid g → uncounted (d .wait) g ≡ true → Valid (withGuard d g)
+  guard-valid g p u =
+      record { keys = v .keys; links = v .links; sessions = v .sessions; guard = p; wait = u; name = v .name }
+
+  pub wait-valid : (w : RotationWait) → uncounted w (d .guard) ≡ true → Valid (withWait d w)
+  wait-valid w u =
+      record { keys = v .keys; links = v .links; sessions = v .sessions; guard = v .guard; wait = u; name = v .name }
 
   pub beacon-valid : (b : Beacon) → Valid (withBeacon d b)
   beacon-valid b =
-      record { keys = v .keys; links = v .links; sessions = v .sessions; guard = v .guard; name = v .name }
+      record { keys = v .keys; links = v .links; sessions = v .sessions; guard = v .guard; wait = v .wait; name = v .name }
 
   pub name-valid : (n : Name) → names.Valid n → Valid (withName d n)
   name-valid n p =
-      record { keys = v .keys; links = v .links; sessions = v .sessions; guard = v .guard; name = p }
+      record { keys = v .keys; links = v .links; sessions = v .sessions; guard = v .guard; wait = v .wait; name = p }
 
   pub sessions-valid : (ss : Sessions) → length (ss .links) ≡ linkCount → All Canonical (ss .links) → Valid
       (withSessions d ss)
   sessions-valid ss n p =
-      record { keys = v .keys; links = n; sessions = p; guard = v .guard; name = v .name }
+      record { keys = v .keys; links = n; sessions = p; guard = v .guard; wait = v .wait; name = v .name }
 
   pub link-valid : (l : ℕ) (s : Session) → Canonical s → Valid (withLink d l s)
   link-valid l s p =
@@ -86,14 +94,23 @@ module _ {d : Device} (v : Valid d) where
         links = links;
         sessions = held;
         guard = clock-valid (d .guard) (v .guard) t;
+        wait = clock-uncounted (d .wait) (d .guard) t (v .wait);
         name = v .name;
       }
 
 -- power-on with a valid list and a valid name
 pub started-valid : (ks : AccountKeys) (n : Name) (s : Start) → keys.Valid ks → names.Valid n → Valid (started ks n s)
-started-valid ks n s p q = record { keys = p; links = refl; sessions = all-idle; guard = fresh-valid; name = q }
+started-valid ks n s p q =
+    record { keys = p; links = refl; sessions = all-idle; guard = fresh-valid; wait = refl; name = q }
 
 -- the value before any device
 pub off-valid : Valid off
 off-valid =
-    record { keys = no-keys-valid; links = refl; sessions = all-idle; guard = fresh-valid; name = no-name-valid }
+    record {
+      keys = no-keys-valid;
+      links = refl;
+      sessions = all-idle;
+      guard = fresh-valid;
+      wait = refl;
+      name = no-name-valid;
+    }

@@ -15,8 +15,10 @@ use Rattle.account_keys.specs.StoredList.{reading}
 use Rattle.account_keys.specs.declared.AccountKeys.{AccountKeys}
 use Rattle.basics.proofs.Answers.{unlike}
 use Rattle.basics.specs.declared.Answer.the-variants.{Taken, ListMalformed}
-use Rattle.key_based.proofs.Deciding.{Way, locked, unasked, no-fit, spent, taken, decided-way}
+use Rattle.key_based.proofs.Deciding.{Way, locked, awaited, unasked, no-fit, spent, taken, decided-way}
 use Rattle.key_based.specs.Decision.{asked, usedIn}
+use Rattle.key_based.specs.Named.{asksRotation}
+use Rattle.key_based.specs.Request.{requestSalt}
 use Rattle.key_based.specs.declared.Decision.{Decision}
 use Rattle.key_based.specs.declared.Search.{Search}
 use Rattle.pairing.proofs.SessionSteps.{Lawful, Storable, in-a-stage, step-lawful}
@@ -26,15 +28,17 @@ use Rattle.names.specs.Name.{nameOf}
 use Rattle.names.specs.declared.Name.{Name}
 use Rattle.pairing.specs.Pairing.{storedIn, renamedIn}
 use Rattle.pairing.specs.declared.SessionOutcome.{SessionOutcome}
-use Rattle.provider.proofs.Theorems.ValidParts.{no-keys-valid, keys-valid, guard-valid, beacon-valid, name-valid, link-valid, dropAt-valid, dropAll-valid, clockStep-valid, started-valid}
+use Rattle.provider.proofs.Theorems.ValidParts.{no-keys-valid, keys-valid, guard-valid, wait-valid, beacon-valid, name-valid, link-valid, dropAt-valid, dropAll-valid, clockStep-valid, started-valid}
 use Rattle.provider.proofs.Theorems.Ways as event
 use Rattle.provider.proofs.Theorems.Ways.{way}
 use Rattle.provider.specs.Demands.Validity.{Valid, StaysValid, StartsValid, StoredListReadsBack}
-use Rattle.provider.specs.Rules.Device.{Effect}
+use Rattle.provider.specs.Rules.Device.{Effect, withGuard, withWait, withLink}
 use Rattle.provider.specs.Rules.Event.{DeviceEvent, PairingMode, AddressRotated, FactoryReset, LinkEvent, LinkUp, LinkDown, KeyBasedWrite, OnSession, Event, PowerOn, contextOf, requested, applied, onDevice, onLink, next, after}
 use Rattle.provider.specs.declared.Device.{Device}
 use Rattle.request_guard.proofs.Laws.{fresh-valid, accepted-valid, failed-valid}
-use Rattle.request_guard.specs.Guard.{fresh}
+use Rattle.request_guard.proofs.Uncounted.{fresh-uncounted, accepted-uncounted, off-uncounted}
+use Rattle.request_guard.specs.Guard.{fresh, failedAt}
+use Rattle.request_guard.specs.Wait.{noWait, waitAfter}
 use Rattle.sessions.specs.Sessions.{Canonical, linkCount, absentSession, sessionAt}
 
 -- ---- events on a link
@@ -66,16 +70,23 @@ module _ {d : Device} (v : Valid d) (l : ℕ) (k : l < linkCount) where
   session-canonical : Canonical (sessionAt (d .sessions) l)
   session-canonical = all-get Canonical (d .sessions .links) (v .sessions) l absentSession (rw (v .links) k)
 
-  decision-valid : {t : ℕ} {uses : Bool} {f : Search} {r : Decision} → Way (d .guard) (sessionAt (d .sessions) l) t uses f r
+  -- the guard stays, and so does the wait
+  refused-valid : Valid (withLink (withWait (withGuard d (d .guard)) (d .wait)) l (sessionAt (d .sessions) l))
+  refused-valid = link-valid v l _ session-canonical
+
+  decision-valid : {t : ℕ} {uses : Bool} {f : Search} {r : Decision} → Way (contextOf d) (sessionAt (d .sessions) l) t uses f r
       → Valid (requested d l r .next)
-  decision-valid locked = link-valid (guard-valid v _ (v .guard)) l _ session-canonical
-  decision-valid unasked = link-valid (guard-valid v _ (v .guard)) l _ session-canonical
-  decision-valid {t} (no-fit h) =
-      link-valid (guard-valid v _ (failed-valid (d .guard) (v .guard) t h)) l _ session-canonical
-  decision-valid spent = link-valid (guard-valid v _ (v .guard)) l _ session-canonical
-  decision-valid {t} {uses} {f} (taken h p) =
-      link-valid (guard-valid (keys-valid v _ (used-valid uses (f .key) (d .keys) (v .keys))) _
-      (accepted-valid (d .guard) (v .guard) _ p)) l _ (in-a-stage (asked (f .key) t) refl)
+  decision-valid locked = refused-valid
+  decision-valid awaited = refused-valid
+  decision-valid unasked = refused-valid
+  decision-valid {t} (no-fit h a) =
+      link-valid (guard-valid v _ (failed-valid (d .guard) (v .guard) t h) (off-uncounted (d .wait) (failedAt t (d .guard)) a)) l _
+      session-canonical
+  decision-valid spent = refused-valid
+  decision-valid {t} {uses} {f} (taken h p a) =
+      link-valid (wait-valid (guard-valid (keys-valid v _ (used-valid uses (f .key) (d .keys) (v .keys))) _
+      (accepted-valid (d .guard) (v .guard) _ p) (accepted-uncounted (d .wait) (d .guard) (requestSalt (f .plain)))) _
+      (accepted-uncounted (waitAfter (asksRotation (f .named)) (d .wait)) (d .guard) (requestSalt (f .plain)))) l _ (in-a-stage (asked (f .key) t) refl)
 
   applied-valid : {a : SessionOutcome} → Lawful (sessionAt (d .sessions) l) a → Valid (applied d l a .next)
   applied-valid {a} p =
@@ -93,9 +104,11 @@ module _ {d : Device} (v : Valid d) (l : ℕ) (k : l < linkCount) where
 
 device-valid : (e : DeviceEvent) {d : Device} → Valid d → Valid (onDevice e d)
 device-valid (PairingMode on) v = beacon-valid v _
-device-valid (AddressRotated ble salt) v = beacon-valid v _
-device-valid FactoryReset v =
-    beacon-valid (name-valid (keys-valid (guard-valid (dropAll-valid v) fresh fresh-valid) _ no-keys-valid) _ no-name-valid) _
+device-valid (AddressRotated ble salt) v = wait-valid (beacon-valid v _) noWait refl
+device-valid FactoryReset {d} v =
+    beacon-valid (name-valid (keys-valid
+    (wait-valid (guard-valid (dropAll-valid v) fresh fresh-valid (fresh-uncounted (d .wait))) noWait refl) _
+    no-keys-valid) _ no-name-valid) _
 
 leaves-valid : {d : Device} {e : Event} {x : Effect} → event.Way d e x → Valid d → Valid (x .gives .next)
 leaves-valid event.marker v = dropAll-valid v

@@ -13,6 +13,7 @@ use Rattle.account_keys.specs.declared.ListForm.the-variants.{WellFormed, Malfo
 use Rattle.basics.specs.Answers.{answerNumber}
 use Rattle.additional_data.specs.Packet.{opened, packetSized}
 use Rattle.key_based.specs.Decision.{saltKnown, triedKeys, unwanted}
+use Rattle.key_based.specs.Named.{fits}
 use Rattle.key_based.specs.Request.{sized}
 use Rattle.names.specs.Name.{isName}
 use Rattle.pairing.specs.Pairing.{PairingEvent, PairingStarted, ConfirmationNeeded, PasskeyWrite, PairingEnded, AccountKeyWrite, NameWrite, refusedCapability, badBlock}
@@ -81,14 +82,15 @@ rowsOnSession (NameWrite packet) s =
     ∷ row 15 (not (opened (s .key) packet .good))
     ∷ []
 
--- 5: "count is 10"; 6: "80 bytes, pairing mode off"; 7: "no candidate fits"; 8: "fits, salt remembered"
+-- 5: "count is 10"; document 02 (vii), 16, "after 5 and before 6": until the rotation; 6: "80 bytes, pairing mode off"; 7: "no candidate fits"; 8: "fits, salt remembered"
 unfoldable pub rowsAfterClock : LinkEvent → Device → ℕ → List Row
 rowsAfterClock LinkUp d l = []
 rowsAfterClock LinkDown d l = []
 rowsAfterClock (KeyBasedWrite request element salt nonce out packet) d l =
     row 5 (locked (d .guard))
+    ∷ row 16 (d .wait .on)
     ∷ row 6 (unwanted (contextOf d) request)
-    ∷ row 7 (not (triedKeys (contextOf d) element request .found))
+    ∷ row 7 (not (fits (triedKeys (contextOf d) element request .named)))
     ∷ row 8 (saltKnown (d .guard) (triedKeys (contextOf d) element request))
     ∷ []
 rowsAfterClock (OnSession e) d l = rowsOnSession e (sessionAt (d .sessions) l)

@@ -12,6 +12,7 @@ use Rattle.account_keys.specs.StoredList.{reading}
 use Rattle.account_keys.specs.declared.AccountKey.{AccountKey}
 use Rattle.basics.specs.Answers.{answerNumber}
 use Rattle.basics.specs.declared.Answer.the-variants.{Taken}
+use Rattle.key_based.specs.Named.{asksRotation}
 use Rattle.names.specs.Name.{textOf}
 use Rattle.pairing.specs.Pairing.{PairingEvent, PairingStarted, ConfirmationNeeded, PasskeyWrite, PairingEnded, AccountKeyWrite, NameWrite, isAccountKeyWrite, isNameWrite}
 use Rattle.provider.specs.Demands.Validity.{written}
@@ -80,7 +81,10 @@ pub record Observed (S R : Type 0) : Type 0 where
   pub reply : S → Event → R
   pub leaves : S → Event → List (List ℕ)
   pub written : S → List ℕ
-  pub named : S → List ℕ
+  pub name : S → List ℕ
+  -- document 02 (vii): a rotation is awaited; the answer asks for one
+  pub waits : S → Bool
+  pub rotate : S → Event → Bool
 
 -- the rules, so seen
 abbrev pub rules : Observed Device Reply
@@ -91,7 +95,9 @@ rules =
       reply = λ d e. step d e .gives .reply;
       leaves = λ d e. step d e .leaves;
       written = written;
-      named = λ d. textOf (d .name);
+      name = λ d. textOf (d .name);
+      waits = λ d. d .wait .on;
+      rotate = λ d e. asksRotation (step d e .gives .reply .named);
     }
 
 -- a key that a written list holds
@@ -120,15 +126,15 @@ module _ {S R : Type 0} (o : Observed S R) where
   abbrev pub Parting : S → S → Event → Type 0
   Parting d c e = ((writesKey e or writesName e) ≡ true) × (o .number d e ≡ 0) × (o .number c e ≡ 9)
 
-  -- up to and including the parting every event compares, and after each event but the parting the written lists and the names
-  -- are equal
+  -- up to and including the parting every event compares, "this wait is alike in both runs" after it (document 02 (vii)), and after
+  -- each event but the parting the written lists and the names are equal
   abbrev pub TwoRuns : (d c : S) {es fs : List Event} → Marked es fs → Type 0
   TwoRuns d c done = Unit
   TwoRuns d c (added m) = TwoRuns d (o .next c Overflow) m
   TwoRuns d c (same e m) =
-      Compared d c e
+      Compared d c e × (o .waits (o .next d e) ≡ o .waits (o .next c e))
       × (Parting d c e ⊎
-      ((o .written (o .next d e) ≡ o .written (o .next c e)) × (o .named (o .next d e) ≡ o .named (o .next c e))
+      ((o .written (o .next d e) ≡ o .written (o .next c e)) × (o .name (o .next d e) ≡ o .name (o .next c e))
       × TwoRuns (o .next d e) (o .next c e) m))
 
   -- "A request is accepted .. exactly when its write gets 0"

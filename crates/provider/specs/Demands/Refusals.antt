@@ -1,4 +1,5 @@
--- Demand 1: what a refusal changes, leaves and hands out, and the number of keys tried that every answer tells.
+-- Demand 1: what a refusal changes, leaves and hands out, and the number of keys tried and the address named that every
+-- answer tells.
 -- Assumes nothing.
 use mathlib.Core.Bool.{false}
 use mathlib.Core.List.{[], _∷_}
@@ -9,6 +10,10 @@ use Rattle.basics.specs.Answers.{isTaken, isOneOf}
 use Rattle.basics.specs.declared.Answer.{Answer}
 use Rattle.key_based.specs.Decision.{triedKeys}
 use Rattle.key_based.specs.Request.{noBond}
+use Rattle.key_based.specs.Search.{noneFits}
+use Rattle.key_based.specs.declared.Search.{Search}
+use Rattle.key_based.specs.declared.named.Named.{Named}
+use Rattle.key_based.specs.declared.named.Named.the-variants.{Neither}
 use Rattle.pairing.specs.declared.Confirm.the-variants.{Unasked}
 use Rattle.provider.specs.Rules.Device.{clockStep, dropAll, dropAt, withGuard}
 use Rattle.provider.specs.Rules.Event.{Event, LinkEvent, LinkUp, LinkDown, KeyBasedWrite, OnSession, Overflow, PowerOn, OnDevice, OnLink, lent, contextOf, step, next, answerOf}
@@ -27,7 +32,7 @@ changed a d l t =
     if isOneOf (7 ∷ []) a then withGuard (clockStep t d) (failedAt t (clockStep t d .guard)) else
     -- "its K dropped"
     if isOneOf (10 ∷ 11 ∷ 12 ∷ []) a then dropAt (clockStep t d) l else
-    -- 5, 6, 8 and 9: "clock step only"; 15: "old name kept", and it keeps "K, stage and timer"
+    -- 5, 6, 8, 9 and 16: "clock step only"; 15: "old name kept", and it keeps "K, stage and timer"
     clockStep t d
 
 -- a marker is never refused, 14 changes nothing, and an event of the whole device is refused by 4 alone
@@ -43,29 +48,37 @@ Refusals =
     (d : Device) (e : Event) → isTaken (answerOf d e) ≡ false
     → (step d e .leaves ≡ lent e) × (next d e ≡ refusedNext (answerOf d e) d e)
 
--- the number of keys that an event tries, if it comes to trying
-abbrev pub triedOnLink : LinkEvent → Device → ℕ
-triedOnLink LinkUp d = 0
-triedOnLink LinkDown d = 0
-triedOnLink (KeyBasedWrite request element salt nonce out packet) d = triedKeys (contextOf d) element request .tried
-triedOnLink (OnSession e) d = 0
+-- what trying the keys on an event comes to, if it comes to trying; on any but a key-based write there is none
+abbrev pub searchOnLink : LinkEvent → Device → Search
+searchOnLink LinkUp d = noneFits 0
+searchOnLink LinkDown d = noneFits 0
+searchOnLink (KeyBasedWrite request element salt nonce out packet) d = triedKeys (contextOf d) element request
+searchOnLink (OnSession e) d = noneFits 0
 
-abbrev pub triedIn : Device → Event → ℕ
-triedIn d Overflow = 0
-triedIn d (PowerOn stored name start) = 0
-triedIn d (OnDevice t e) = 0
-triedIn d (OnLink l t e) = triedOnLink e (clockStep t d)
+abbrev pub searchIn : Device → Event → Search
+searchIn d Overflow = noneFits 0
+searchIn d (PowerOn stored name start) = noneFits 0
+searchIn d (OnDevice t e) = noneFits 0
+searchIn d (OnLink l t e) = searchOnLink e (clockStep t d)
 
 -- "The answer tells the number of keys tried", with 0, 7 and 8. "An answer given before trying says 0."
 abbrev pub toldTried : Answer → ℕ → ℕ
 toldTried a n = if isOneOf (0 ∷ 7 ∷ 8 ∷ []) a then n else 0
 
 abbrev pub NumberTried : Type 0
-NumberTried = (d : Device) (e : Event) → step d e .gives .reply .tried ≡ toldTried (answerOf d e) (triedIn d e)
+NumberTried = (d : Device) (e : Event) → step d e .gives .reply .tried ≡ toldTried (answerOf d e) (searchIn d e .tried)
 
--- a refusal hands out no address for bonding, no word on a passkey and no packet
+-- document 02 (vii): "The accepted answer hands this on": the address that was named. Every other answer says neither
+abbrev pub toldNamed : Answer → Named → Named
+toldNamed a n = if isTaken a then n else Neither
+
+abbrev pub AddressTold : Type 0
+AddressTold = (d : Device) (e : Event) → step d e .gives .reply .named ≡ toldNamed (answerOf d e) (searchIn d e .named)
+
+-- a refusal names no address and hands out none for bonding, no word on a passkey and no packet
 abbrev pub refusing : Reply → Reply
-refusing r = record { answer = r .answer; tried = r .tried; bond = noBond; confirm = Unasked; packet = 0 }
+refusing r =
+    record { answer = r .answer; tried = r .tried; named = Neither; bond = noBond; confirm = Unasked; packet = 0 }
 
 abbrev pub RefusalsHandOutOnlyTried : Type 0
 RefusalsHandOutOnlyTried =

@@ -1,5 +1,6 @@
 -- What every device has that came from power-on or an event, and demand 2's sentence about its stored list.
 -- Assumes nothing.
+use mathlib.Core.Bool.{true}
 use mathlib.Core.List.{List}
 use mathlib.Core.Path.{_≡_}
 use Prim.Native.Nat.{ℕ}
@@ -14,6 +15,7 @@ use Rattle.provider.specs.Rules.Event.{Event, PowerOn, next, answerOf}
 use Rattle.provider.specs.declared.Device.{Device}
 use Rattle.provider.specs.declared.Start.{Start}
 use Rattle.request_guard.specs.Guard as guard
+use Rattle.request_guard.specs.Wait.{uncounted}
 use Rattle.sessions.specs.Sessions.{linkCount, Canonical}
 
 pub record Valid (d : Device) : Type 0 where
@@ -21,6 +23,7 @@ pub record Valid (d : Device) : Type 0 where
   pub links : length (d .sessions .links) ≡ linkCount
   pub sessions : All Canonical (d .sessions .links)
   pub guard : guard.Valid (d .guard)
+  pub wait : uncounted (d .wait) (d .guard) ≡ true
   pub name : names.Valid (d .name)
 
 -- every event keeps it

@@ -11,6 +11,7 @@ use Rattle.basics.specs.Answers.{isTaken}
 use Rattle.basics.specs.declared.Answer.{Answer}
 use Rattle.basics.specs.declared.Answer.the-variants.{Taken, UnknownLink, ClockWentBack}
 use Rattle.key_based.specs.Request.{noBond}
+use Rattle.key_based.specs.declared.named.Named.the-variants.{Neither}
 use Rattle.names.specs.declared.Name.{Name}
 use Rattle.pairing.specs.declared.Confirm.the-variants.{Unasked}
 use Rattle.provider.specs.declared.Checked.{Checked}
@@ -19,6 +20,7 @@ use Rattle.provider.specs.declared.Outcome.{Outcome}
 use Rattle.provider.specs.declared.Reply.{Reply}
 use Rattle.request_guard.specs.Guard.{guardAt}
 use Rattle.request_guard.specs.declared.Guard.{Guard}
+use Rattle.request_guard.specs.declared.wait.RotationWait.{RotationWait}
 use Rattle.sessions.specs.Sessions.{idle, allIdle, withSession, expired}
 use Rattle.sessions.specs.declared.Session.{Session}
 use Rattle.sessions.specs.declared.Sessions.{Sessions}
@@ -32,6 +34,7 @@ withKeys d ks =
       keys = ks;
       sessions = d .sessions;
       guard = d .guard;
+      wait = d .wait;
       identity = d .identity;
       beacon = d .beacon;
       name = d .name;
@@ -44,6 +47,7 @@ withSessions d ss =
       keys = d .keys;
       sessions = ss;
       guard = d .guard;
+      wait = d .wait;
       identity = d .identity;
       beacon = d .beacon;
       name = d .name;
@@ -56,6 +60,20 @@ withGuard d g =
       keys = d .keys;
       sessions = d .sessions;
       guard = g;
+      wait = d .wait;
+      identity = d .identity;
+      beacon = d .beacon;
+      name = d .name;
+    }
+
+abbrev pub withWait : Device → RotationWait → Device
+withWait d w =
+    record {
+      clock = d .clock;
+      keys = d .keys;
+      sessions = d .sessions;
+      guard = d .guard;
+      wait = w;
       identity = d .identity;
       beacon = d .beacon;
       name = d .name;
@@ -68,6 +86,7 @@ withBeacon d b =
       keys = d .keys;
       sessions = d .sessions;
       guard = d .guard;
+      wait = d .wait;
       identity = d .identity;
       beacon = b;
       name = d .name;
@@ -80,6 +99,7 @@ withName d n =
       keys = d .keys;
       sessions = d .sessions;
       guard = d .guard;
+      wait = d .wait;
       identity = d .identity;
       beacon = d .beacon;
       name = n;
@@ -105,7 +125,7 @@ pub record Effect : Type 0 where
 
 -- an answer that hands out nothing: "An answer given before trying says 0."
 abbrev pub replyOf : Answer → Reply
-replyOf a = record { answer = a; tried = 0; bond = noBond; confirm = Unasked; packet = 0 }
+replyOf a = record { answer = a; tried = 0; named = Neither; bond = noBond; confirm = Unasked; packet = 0 }
 
 abbrev pub given : Device → Answer → Outcome
 given d a = record { next = d; reply = replyOf a }
@@ -129,6 +149,7 @@ clockStep t d =
       keys = d .keys;
       sessions = expired t (d .sessions);
       guard = guardAt t (d .guard);
+      wait = d .wait;
       identity = d .identity;
       beacon = d .beacon;
       name = d .name;

@@ -13,19 +13,22 @@ use Rattle.basics.specs.declared.Address.{Address}
 use Rattle.basics.specs.declared.Answer.{Answer}
 use Rattle.basics.specs.declared.Answer.the-variants.{Taken, WrongLength, PasskeyTooLarge, OutputTooShort}
 use Rattle.key_based.specs.Decision.{decided, usedIn, requestOutputs, packetLength}
+use Rattle.key_based.specs.Named.{asksRotation}
 use Rattle.key_based.specs.Request.{noBond, sized}
 use Rattle.key_based.specs.declared.Context.{Context}
 use Rattle.key_based.specs.declared.Decision.{Decision}
 use Rattle.key_based.specs.declared.Element.{Element}
+use Rattle.key_based.specs.declared.named.Named.the-variants.{Neither}
 use Rattle.pairing.specs.Pairing.{PairingEvent, PairingStarted, ConfirmationNeeded, PasskeyWrite, PairingEnded, AccountKeyWrite, NameWrite, sessionStep, storedIn, addsTo, renamedIn}
 use Rattle.pairing.specs.Pairing as pairing
 use Rattle.pairing.specs.declared.SessionOutcome.{SessionOutcome}
 use Rattle.pairing.specs.declared.Confirm.the-variants.{Unasked}
 use Rattle.provider.specs.Rules.Control.{overflow, pairingMode, addressRotated, factoryReset, powerOn}
-use Rattle.provider.specs.Rules.Device.{Effect, takes, inTime, onKnownLink, withKeys, withGuard, withBeacon, withName, withLink, dropAt}
+use Rattle.provider.specs.Rules.Device.{Effect, takes, inTime, onKnownLink, withKeys, withGuard, withWait, withBeacon, withName, withLink, dropAt}
 use Rattle.provider.specs.declared.Device.{Device}
 use Rattle.provider.specs.declared.Outcome.{Outcome}
 use Rattle.provider.specs.declared.Start.{Start}
+use Rattle.request_guard.specs.Wait.{waitAfter}
 use Rattle.sessions.specs.Sessions.{sessionAt}
 
 -- ---- the kinds of event; a lent output is the list of its bytes beforehand
@@ -115,17 +118,23 @@ contextOf d =
       pairing = d .beacon .pairing;
       keys = d .keys;
       guard = d .guard;
+      wait = d .wait;
       name = d .name;
     }
 
--- the device after a request that was decided so
+-- the keys with the one that a request uses at the end
+abbrev pub withUsed : Device → Decision → Device
+withUsed d r = withKeys d (usedIn (r .uses) (r .session .key) (d .keys))
+
+-- the device after a request that was decided so; it waits if the request "named the BLE address"
 abbrev pub requested : Device → ℕ → Decision → Outcome
 requested d l r =
     record {
-      next = withLink (withGuard (withKeys d (usedIn (r .uses) (r .session .key) (d .keys))) (r .guard)) l (r .session);
+      next = withLink (withWait (withGuard (withUsed d r) (r .guard)) (waitAfter (asksRotation (r .named)) (d .wait))) l (r .session);
       reply = record {
         answer = r .answer;
         tried = r .tried;
+        named = r .named;
         bond = r .bond;
         confirm = Unasked;
         packet = packetLength (r .sends) (d .name);
@@ -143,7 +152,14 @@ abbrev pub applied : Device → ℕ → SessionOutcome → Outcome
 applied d l a =
     record {
       next = withLink (withName (withStored d a) (renamedIn a (d .name))) l (a .session);
-      reply = record { answer = a .answer; tried = 0; bond = noBond; confirm = a .confirm; packet = 0 };
+      reply = record {
+        answer = a .answer;
+        tried = 0;
+        named = Neither;
+        bond = noBond;
+        confirm = a .confirm;
+        packet = 0;
+      };
     }
 
 -- what happens on link l at moment t, after the clock step

@@ -1,4 +1,4 @@
--- The fields that are copied are the definition's as they stand; the other three are calls.
+-- The fields that are copied are the definition's as they stand; the others are calls.
 use borrow.Author.Needs.{needs}
 use Rattle.packed.specs.Packed.{packed}
 use Rattle.packed.proofs.pack.pack.Statement.{statement}
@@ -6,7 +6,17 @@ use Rattle.packed.proofs.pack.pack.Tie as tie
 
 returns : tie.Need-returns
 unfolding packed
-returns c = rw (c .flag .ensures, c .before .pack-keys .ensures, c .before .before .pack-links .ensures)
+returns c =
+    let at-flag = c .before in
+    let at-pack-keys = at-flag .before in
+    rw (
+      c .flag2 .ensures,
+      at-flag .flag .ensures,
+      at-pack-keys .pack-keys .ensures,
+      at-pack-keys .before .pack-links .ensures,
+    )
 
 pub pack-spec : {M : Type 1} → statement M
-pack-spec = tie.close (tie.spec (λ c κs. search needs) (λ c κs. search needs) (λ c κs. search needs) returns)
+pack-spec =
+    tie.close
+    (tie.spec (λ c κs. search needs) (λ c κs. search needs) (λ c κs. search needs) (λ c κs. search needs) returns)

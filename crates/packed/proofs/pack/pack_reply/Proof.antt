@@ -4,7 +4,17 @@ use Rattle.packed.proofs.pack.pack_reply.Statement.{statement}
 use Rattle.packed.proofs.pack.pack_reply.Tie as tie
 
 returns : tie.Need-returns
-returns c = rw (c .before .number .ensures, c .confirm-number .ensures)
+returns c =
+    let at-named = c .before in
+    let at-confirm-number = at-named .before in
+    rw (
+      c .asks-rotation .ensures,
+      at-named .number2 .ensures,
+      at-confirm-number .confirm-number .ensures,
+      at-confirm-number .before .number .ensures,
+    )
 
 pub pack-reply-spec : {M : Type 1} → statement M
-pack-reply-spec = tie.close (tie.spec (λ c κs. search needs) (λ c κs. search needs) returns)
+pack-reply-spec =
+    tie.close
+    (tie.spec (λ c κs. search needs) (λ c κs. search needs) (λ c κs. search needs) (λ c κs. search needs) returns)

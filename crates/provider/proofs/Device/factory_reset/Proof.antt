@@ -20,13 +20,14 @@ returns c =
     (not-true (at-in-time .in-time .result .passed) (c .before .if1 .taken)) [] _))
 
 with-keys-requires : tie.Need-with-keys-requires
-with-keys-requires c κs = none-kept (c .before .before .before .none .ensures)
+with-keys-requires c κs = none-kept (c .before .before .before .before .none .ensures)
 
 returns-2 : tie.Need-returns-2
 returns-2 c =
-    let at-none2 = c .before in
-    let at-with-keys = at-none2 .before in
-    let at-new = at-with-keys .before in
+    let at-no-name = c .before in
+    let at-with-keys = at-no-name .before in
+    let at-no-wait = at-with-keys .before in
+    let at-new = at-no-wait .before in
     let at-all-idle = at-new .before in
     let at-none = at-all-idle .before .before in
     let at-if1 = at-none .before .before in
@@ -36,7 +37,7 @@ returns-2 c =
     (not-false (at-in-time .in-time .result .passed) (at-if1 .if1 .left)) in
     c .answers .ensures ∙ emptied
     (at-in-time .in-time .result .outcome .next) (at-none .none .ensures) (at-all-idle .all-idle .ensures)
-    (at-new .new .ensures) (at-with-keys .with-keys .ensures) (at-none2 .none2 .ensures)
+    (at-new .new .ensures) (at-no-wait .none2 .ensures) (at-with-keys .with-keys .ensures) (at-no-name .none3 .ensures)
     ∙ ap (λ (d : Device). given (control.factoryReset d) Taken) (p .0)
     ∙ sym (ap (λ (x : Effect). x .gives) (p .1 [] _))
 
@@ -46,6 +47,7 @@ factory-reset-spec =
     (tie.spec
     (λ c κs. search needs)
     returns
+    (λ c κs. search needs)
     (λ c κs. search needs)
     (λ c κs. search needs)
     (λ c κs. search needs)

@@ -8,8 +8,8 @@ use borrow.Author.Needs.{needs}
 use Rattle.provider.proofs.Device.power_on.Statement.{statement}
 use Rattle.provider.proofs.Device.power_on.Tie as tie
 
-named-requires : tie.Need-named-requires
-named-requires c κs =
+by-name-requires : tie.Need-by-name-requires
+by-name-requires c κs =
     let at-enum-told = c .before in
     let at-read = at-enum-told .before .before in
     let start = at-read .before .before .before in
@@ -21,8 +21,8 @@ returns c =
     let at-enum-told = c .before .before in
     let at-read = at-enum-told .before .before in
     let start = at-read .before .before .before in
-    c .named .ensures
-    ∙ ap (λ (r : Reading). control.named (start .args .self) (r .keys) (start .args .name .now) (start .args .start) .gives)
+    c .by-name .ensures
+    ∙ ap (λ (r : Reading). control.byName (start .args .self) (r .keys) (start .args .name .now) (start .args .start) .gives)
     (at-read .read .ensures)
     ∙ sym (ap (λ (x : Effect). x .gives)
     (list-read (start .args .self) (start .args .stored .now) (start .args .name .now) (start .args .start)
@@ -43,7 +43,7 @@ power-on-spec =
     (tie.spec
     (λ c κs. search needs)
     (λ c. search needs)
-    named-requires
+    by-name-requires
     (λ c. search needs)
     (λ c κs. search needs)
     returns

@@ -6,8 +6,8 @@ use Rattle.provider.specs.Rules.Device.{given}
 use Rattle.provider.specs.declared.Device.{Device}
 use Rattle.provider.proofs.Checks.{bad-name, good-name}
 use borrow.Author.Needs.{needs}
-use Rattle.provider.proofs.Device.named.Statement.{statement}
-use Rattle.provider.proofs.Device.named.Tie as tie
+use Rattle.provider.proofs.Device.by_name.Statement.{statement}
+use Rattle.provider.proofs.Device.by_name.Tie as tie
 
 returns : tie.Need-returns
 returns c =
@@ -27,8 +27,8 @@ returns-2 c =
     ∙ good-name (start .args .self) (start .args .keys) (start .args .name .now) (start .args .start)
     (at-read .read .ensures) (not-false (at-read .read .result .good) (at-if1 .if1 .left))
 
-pub named-spec : {M : Type 1} → statement M
-named-spec =
+pub by-name-spec : {M : Type 1} → statement M
+by-name-spec =
     tie.close
     (tie.spec
     (λ c κs. search needs)
