@@ -114,8 +114,9 @@
  *     fp_factory_reset
  *
  * Time does not end it, nor a link that goes up or down, pairing mode, an overflow marker, or one of these calls that was
- * refused. If the radio never rotates, no request is accepted any more until power-on: no owner connects and nobody pairs.
- * So rotate as soon as the response was notified. If rotation is put off, expect 16 to other phones until then.
+ * refused. If the radio never rotates, no request is accepted any more until power-on or a factory reset: no owner connects
+ * and nobody pairs. So rotate as soon as the response was notified. If rotation is put off, expect 16 to other phones until
+ * then.
  *
  * If the rotation is among events that your queue lost, the device waits on, and has the old address: the marker does not
  * tell it. So after fp_overflow, if `next.rotation_awaited` is 1, call fp_address_rotated with the address that the radio
