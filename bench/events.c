@@ -6,8 +6,8 @@
  *     events count ROW event|interface COUNT
  *     events stack ROW                       the bytes of stack that one call takes
  *
- * A device goes in by value, so every call does the same work. `interface` calls, on the row's own device, what only
- * reads it in and writes it out. Exit 1 if an event does not get the answer meant.
+ * A device or a replay goes in by value, so every call does the same work. `interface` calls, on the row's own device or
+ * replay, what only reads it in and writes it out. Exit 1 if an event does not get the answer meant.
  */
 #define _DEFAULT_SOURCE /* the members of stack_t */
 
@@ -152,6 +152,35 @@ static fp_outcome told(fp_report report)
 	o.reply.packet_length = 0;
 	o.next.stored.length = report.length;
 	return o;
+}
+
+/* The replay that is fed, and what it is fed with: its device is the row's. */
+static fp_replay replay;
+static uint8_t record[FP_RECORD_MAX];
+static size_t record_length;
+
+/* The status of a feeding, and the place that was read to. The stack of such a row has the fp_fed in it, which an outcome
+ * has no room for. */
+static fp_outcome told_of(const fp_fed *fed)
+{
+	return told((fp_report){ .answer = fed->status, .length = fed->at });
+}
+
+static fp_outcome fed(size_t length)
+{
+	fp_fed fed = fp_replay_feed(replay, record, length, 0);
+	return told_of(&fed);
+}
+
+static fp_outcome fed_record(const fp_device *d) { return (void)d, fed(record_length); }
+static fp_outcome fed_byte(const fp_device *d) { return (void)d, fed(1); }
+static fp_outcome fed_nothing(const fp_device *d) { return (void)d, fed(0); }
+
+static fp_outcome fed_end(const fp_device *d)
+{
+	(void)d;
+	fp_fed fed = fp_replay_end(replay);
+	return told_of(&fed);
 }
 
 static fp_outcome advertisement(const fp_device *d) { return told(fp_advertisement(*d, 0, out, sizeof out)); }
@@ -317,6 +346,24 @@ static fp_device full(unsigned keys)
 	return d;
 }
 
+/* A replay behind a power-on; a link goes up next. */
+static fp_device replaying(unsigned keys)
+{
+	make_list(keys);
+	record_length = fp_record_power_on(list, list_length, name, name_length, START, record, sizeof record).length;
+	replay = fp_replay_feed(fp_replay_start(), record, record_length, 0).next;
+	record_length = fp_record_link_up(LINK, NOW, record, sizeof record).length;
+	return replay.device;
+}
+
+/* The first byte of the record is held. */
+static fp_device replaying_within(unsigned keys)
+{
+	replaying(keys);
+	replay = fp_replay_feed(replay, record, 1, 0).next;
+	return replay.device;
+}
+
 /* ---- the rows: a name, the device and its keys, the event, what it must answer; whose key a request is under or an
  * account key write carries, and the length of the packet with the device's name that it must leave */
 
@@ -325,7 +372,7 @@ struct row {
 	fp_device (*device)(unsigned keys);
 	unsigned keys;
 	fp_outcome (*event)(const fp_device *);
-	uint8_t answer, tried, length; /* the length of the stored list afterwards, or of the text told */
+	uint8_t answer, tried, length; /* the length of the stored list afterwards, of the text told, or of what was fed */
 	unsigned whose;
 	uint8_t packet;
 };
@@ -385,10 +432,16 @@ static const struct row rows[] = {
 	{ "advertisement, 10 keys", powered, 10, advertisement, 0, 0, 24, 0, 0 },
 	{ "stored list, 5 keys", powered, 5, stored_list, 0, 0, 84, 0, 0 },
 	{ "stored list, 10 keys", powered, 10, stored_list, 0, 0, 164, 0, 0 },
+	{ "replay fed with a record of link up, 0 keys", replaying, 0, fed_record, FP_LINE_SHOWN, 0, 13, 0, 0 },
+	{ "replay fed with a record of link up, 10 keys", replaying, 10, fed_record, FP_LINE_SHOWN, 0, 13, 0, 0 },
+	{ "replay fed with one byte, 0 keys", replaying, 0, fed_byte, FP_PART_READ, 0, 1, 0, 0 },
+	{ "replay fed with one byte, 10 keys", replaying, 10, fed_byte, FP_PART_READ, 0, 1, 0, 0 },
+	{ "replay ended behind a record, 0 keys", replaying, 0, fed_end, FP_PART_READ, 0, 0, 0, 0 },
+	{ "replay ended within a record, 0 keys", replaying_within, 0, fed_end, FP_LINE_SHOWN, 0, 0, 0, 0 },
 };
 enum { ROWS = sizeof rows / sizeof *rows };
 
-/* ---- what the row's device costs to read in and to write out */
+/* ---- what the row's device or replay costs to read in and to write out */
 
 /* A stored list of no bytes is refused: the device comes back. */
 static fp_outcome refused(const fp_device *d) { return fp_power_on(*d, list, 0, name, 0, START); }
@@ -400,6 +453,8 @@ static fp_outcome (*interface_of(const struct row *row))(const fp_device *)
 {
 	if (row->event == copied)
 		return nothing;
+	if (row->device == replaying || row->device == replaying_within)
+		return fed_nothing;
 	return row->event == advertisement || row->event == stored_list ? no_room : refused;
 }
 

@@ -45,9 +45,9 @@ def per_turn(command):
 
 
 # The instructions of a whole run, from callgrind's file.
-def collected(command):
+def collected(command, stdin=None):
     file = FOLDER / "callgrind.out"
-    run(["valgrind", "--tool=callgrind", f"--callgrind-out-file={file}", *command])
+    run(["valgrind", "--tool=callgrind", f"--callgrind-out-file={file}", *command], stdin)
     lines = file.read_text().split("\n")
     costs = inclusive(lines)
     costs[""] = int(next(line for line in lines if line.startswith("totals:")).split()[1])
@@ -72,16 +72,17 @@ def inclusive(lines):
     return costs
 
 
-# What the calls from elsewhere into functions with these names cost: what these call of their own is in it.
-def entered(costs, names):
-    return sum(cost for calls, cost in costs.items() if calls and calls[1].startswith(names) and not calls[0].startswith(names))
+# What the calls from elsewhere into functions whose names begin with this pattern cost: what these call of their own is in it.
+def entered(costs, pattern):
+    named = re.compile(pattern).match
+    return sum(cost for calls, cost in costs.items() if calls and named(calls[1]) and not named(calls[0]))
 
 
-def run(command):
+def run(command, stdin=None):
     words = [str(word) for word in command]
     if not shutil.which(words[0]):
         sys.exit(f"the command {words[0]} is not there")
-    done = subprocess.run(words, cwd=ROOT, capture_output=True, text=True)
+    done = subprocess.run(words, cwd=ROOT, stdin=stdin, capture_output=True, text=True)
     if done.returncode:
         sys.exit(f"{' '.join(map(str, command))} failed:\n{done.stdout}{done.stderr}")
     return done.stdout

@@ -7,22 +7,14 @@
  * The recording is read whole before the first event. Every record in it has to be right: what is none ends the program
  * with exit 1.
  */
-#define _POSIX_C_SOURCE 200809L /* clock_gettime */
+#include "loaded.h"
 
 #include "../include/fastpair.h"
 
-#include <stdio.h>
-#include <stdlib.h>
 #include <string.h>
-#include <time.h>
 
-static const char *const KINDS[] = { NULL, "marker", "link-up", "link-down", "pairing-mode", "address-rotated", "power-on",
-				     "factory-reset", "key-based-write", "pairing-started", "confirmation-needed",
-				     "passkey-write", "pairing-ended", "account-key-write", "name-write" };
-enum { LAST_KIND = sizeof KINDS / sizeof *KINDS - 1, HEAD = 4, START_BYTES = 17 };
+enum { HEAD = 4, START_BYTES = 17 };
 
-static uint8_t *recording;
-static size_t recording_length;
 static fp_device device;
 static uint8_t out[FP_RESPONSE_SIZE], packet[FP_PACKET_MAX];
 
@@ -130,12 +122,6 @@ static fp_outcome fed(uint8_t kind, const uint8_t *fields, size_t length)
 
 /* ---- the whole recording */
 
-static void stop(const char *what)
-{
-	fprintf(stderr, "replay: %s\n", what);
-	exit(1);
-}
-
 static void show(unsigned long event, uint8_t kind, uint8_t answer)
 {
 	printf("%lu %s %u %u\n", event, KINDS[kind], answer, device.stored.bytes[3]);
@@ -160,26 +146,6 @@ __attribute__((noinline)) static void feed(bool shown)
 		if (shown)
 			show(events, record[3], outcome.reply.answer);
 	}
-}
-
-static void load(const char *path)
-{
-	FILE *file = fopen(path, "rb");
-	if (file == NULL || fseek(file, 0, SEEK_END) != 0)
-		stop(path);
-	recording_length = (size_t)ftell(file);
-	recording = malloc(recording_length + 1);
-	rewind(file);
-	if (recording == NULL || fread(recording, 1, recording_length, file) != recording_length)
-		stop(path);
-	fclose(file);
-}
-
-static uint64_t now(void)
-{
-	struct timespec t;
-	clock_gettime(CLOCK_MONOTONIC, &t);
-	return (uint64_t)t.tv_sec * 1000000000u + (uint64_t)t.tv_nsec;
 }
 
 int main(int argc, char **argv)

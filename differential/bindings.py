@@ -5,7 +5,7 @@ from ctypes import CDLL, c_size_t, c_uint8, c_uint32, c_uint64, c_void_p
 
 from .layout import WrongLayout
 from .paths import HEADER
-from .structs import FpAddress, FpDevice, FpElement, FpOutcome, FpReport, FpStart
+from .structs import FpAddress, FpDevice, FpElement, FpFed, FpOutcome, FpReplay, FpReport, FpStart
 
 LINK, CLOCK, NUMBER = c_uint8, c_uint64, c_uint8
 FIXED = (c_void_p,)
@@ -38,6 +38,12 @@ WRITERS = {
     "fp_key_based_write": (LINK, CLOCK, *SLICE, FpElement, *FIXED, *FIXED, c_size_t, c_size_t),
     "fp_passkey_write": (LINK, CLOCK, *SLICE, *FIXED, c_size_t),
 }
+# All arguments of a replay's functions, and what they give back.
+REPLAYS = {
+    "fp_replay_start": ((), FpReplay),
+    "fp_replay_feed": ((FpReplay, *SLICE, c_size_t), FpFed),
+    "fp_replay_end": ((FpReplay,), FpFed),
+}
 
 
 def writer(event):
@@ -52,7 +58,7 @@ def functions_in_header():
 
 def bind(path):
     """The functions of the shared object, by name."""
-    if functions_in_header() != {"fp_off", *EVENTS, *QUESTIONS, *map(writer, WRITERS)}:
+    if functions_in_header() != {"fp_off", *EVENTS, *QUESTIONS, *map(writer, WRITERS), *REPLAYS}:
         raise WrongLayout(f"other functions: {sorted(functions_in_header())}")
     shared = CDLL(str(path))
     bound = {"fp_off": typed(shared.fp_off, (), FpDevice)}
@@ -62,6 +68,8 @@ def bind(path):
         bound[name] = typed(getattr(shared, name), (FpDevice, *arguments), FpReport)
     for name, arguments in WRITERS.items():
         bound[writer(name)] = typed(getattr(shared, writer(name)), (*arguments, *SLICE), FpReport)
+    for name, (arguments, result) in REPLAYS.items():
+        bound[name] = typed(getattr(shared, name), arguments, result)
     return bound
 
 

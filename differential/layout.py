@@ -4,6 +4,8 @@ import re
 import subprocess
 from ctypes import sizeof
 
+from reference.rules.record_layout import LAYOUTS
+
 from .c_compiler import compile_c
 from .paths import FOLDER, HEADER
 from .setup_error import SetupError
@@ -18,11 +20,16 @@ ANSWERS = (
 STAGES = "IDLE ASKED PAIRING CONFIRMING PROVED PAIRED".split()
 CONFIRM = "UNASKED YES NO".split()
 NAMED = "NEITHER BLE PUBLIC".split()
+STATUSES = {"PART_READ": 0, "LINE_SHOWN": 1, "NOT_A_REPLAY": 255}
+# As docs/RECORDING.md names them, with the kind byte of each.
+KINDS = {layout.name.upper().replace("-", "_"): layout.kind for layout in LAYOUTS}
 NUMBERS = {
     **{f"FP_{name}": number for number, name in enumerate(ANSWERS)},
     **{f"FP_STAGE_{name}": number for number, name in enumerate(STAGES)},
     **{f"FP_CONFIRM_{name}": number for number, name in enumerate(CONFIRM)},
     **{f"FP_NAMED_{name}": number for number, name in enumerate(NAMED)},
+    **{f"FP_{name}": number for name, number in STATUSES.items()},
+    **{f"FP_KIND_{name}": number for name, number in KINDS.items()},
     "FP_LINKS": 8,
     "FP_MAX_KEYS": 10,
     "FP_MAX_SALTS": 16,

@@ -1,5 +1,6 @@
 """Stand-ins for fp_replay that take their input in a wrong way, to see that the comparison finds them."""
 
+from reference.rules.parts import Replay, feed
 from reference.rules.replay import replay
 
 from .replay_program import Printed
@@ -22,8 +23,29 @@ class StandIn:
     def of_parts(self, parts):
         return self.printed(b"".join(parts))
 
+    def of_input_file(self, path):
+        return self.of_input(path.read_bytes())
+
+    def of_terminal(self, recording):
+        return self.of_input(recording)
+
+    def part_by_part(self, parts):
+        return printed_by_parts(parts), self.of_parts(parts)
+
+    def interrupted(self, parts):
+        return self.of_parts(parts)
+
     def printed(self, recording, error=""):
         return Printed(as_text(self.rules(recording)), error, 0)
+
+
+def printed_by_parts(parts):
+    """What is printed with each part."""
+    state, printed = Replay(), []
+    for part in parts:
+        state, lines = feed(state, part)
+        printed.append(as_text(lines))
+    return printed
 
 
 def readable(paths):
@@ -106,6 +128,68 @@ class EachPartARecording(StandIn):
         return Printed("".join(self.printed(part).out for part in parts), "", 0)
 
 
+class PrintsAtTheEnd(StandIn):
+    """What is printed is kept until the program ends."""
+
+    def part_by_part(self, parts):
+        return [""] * len(parts), self.of_parts(parts)
+
+
+class PrintsWithTheNextPart(StandIn):
+    def part_by_part(self, parts):
+        return ["", *printed_by_parts(parts)[:-1]], self.of_parts(parts)
+
+
+class EveryPartEndsARecord(StandIn):
+    """A record that is not whole is printed as a marker before the rest comes."""
+
+    def part_by_part(self, parts):
+        joined = (b"".join(parts[: place + 1]) for place in range(len(parts)))
+        counts, printed = 0, []
+        for recording in joined:
+            lines = self.rules(recording)
+            printed.append(as_text(lines[counts:]))
+            counts = len(lines)
+        return printed, self.of_parts(parts)
+
+
+class InterruptedReadIsTheEnd(StandIn):
+    def interrupted(self, parts):
+        return self.printed(b"")
+
+
+class SecondInterruptionIsTheEnd(StandIn):
+    def interrupted(self, parts):
+        return self.of_parts(parts[:1])
+
+
+class WarnsOfAnInterruptedRead(StandIn):
+    def interrupted(self, parts):
+        return self.printed(b"".join(parts), "standard input: Interrupted system call\n")
+
+
+class PartAgainAfterAnInterruptedRead(StandIn):
+    def interrupted(self, parts):
+        return self.of_parts(parts[:1] + parts)
+
+
+class NoFileAsStandardInput(StandIn):
+    def of_input_file(self, path):
+        return self.printed(b"")
+
+
+class FirstLineOfATerminal(StandIn):
+    """What comes up to the first line end is taken for all."""
+
+    def of_terminal(self, recording):
+        return self.printed(recording.partition(b"\n")[0])
+
+
+class NoTerminal(StandIn):
+    def of_terminal(self, recording):
+        return self.printed(b"", "standard input is a terminal\n")
+
+
 class NothingOnStandardInput(StandIn):
     def of_input(self, recording):
         return self.printed(b"")
@@ -163,6 +247,16 @@ MISTAKES = (
     MessageOnStandardOutput,
     FirstPartAlone,
     EachPartARecording,
+    PrintsAtTheEnd,
+    PrintsWithTheNextPart,
+    EveryPartEndsARecord,
+    InterruptedReadIsTheEnd,
+    SecondInterruptionIsTheEnd,
+    WarnsOfAnInterruptedRead,
+    PartAgainAfterAnInterruptedRead,
+    NoFileAsStandardInput,
+    FirstLineOfATerminal,
+    NoTerminal,
     NothingOnStandardInput,
     EmptyRecordingIsAMarker,
     WarnsOfMarkers,

@@ -1,13 +1,14 @@
 """The program fp_replay, run on a recording that comes by files, by standard input or in small parts."""
 
 import contextlib
+import os
 import socket
 import subprocess
 import tempfile
 from dataclasses import dataclass
 
-# A run takes milliseconds; after so long the program hangs.
-SECONDS = 60
+from .running_replay import SECONDS, RunningReplay
+from .terminal import end_character, terminal
 
 
 @dataclass(frozen=True)
@@ -30,8 +31,44 @@ class ReplayProgram:
         return self.run(*paths)
 
     def of_input(self, recording):
-        """The recording on standard input."""
+        """The recording on standard input, by a pipe."""
         return self.run(input=recording)
+
+    def of_input_file(self, path):
+        """A file as standard input."""
+        with open(path, "rb") as file:
+            return self.run(stdin=file)
+
+    def of_terminal(self, recording):
+        """A terminal as standard input; the recording is short and lacks a byte."""
+        end = end_character(recording)
+        with terminal(end) as (ours, theirs):
+            running = subprocess.Popen([self.path], stdin=theirs, stdout=subprocess.PIPE, stderr=subprocess.PIPE)
+            # The first one hands over a line that is begun, and the second, behind it, ends the input.
+            os.write(ours, recording + end + end)
+            out, error = running.communicate(timeout=SECONDS)
+            return Printed(out.decode(), error.decode(), running.returncode)
+
+    def part_by_part(self, parts):
+        """What it has printed when it waits for the part behind each; and what the run left."""
+        with RunningReplay(self.path) as running:
+            printed = []
+            for part in parts:
+                running.send(part)
+                printed.append(running.printed())
+            out, error, code = running.end()
+            return printed, Printed("".join(printed) + out, error, code)
+
+    def interrupted(self, parts):
+        """Its read is interrupted before each part and before the end."""
+        with RunningReplay(self.path) as running:
+            for part in parts:
+                running.interrupt()
+                running.send(part)
+            running.interrupt()
+            printed = running.printed()
+            out, error, code = running.end()
+            return Printed(printed + out, error, code)
 
     def run(self, *arguments, **options):
         done = subprocess.run([self.path, *arguments], capture_output=True, timeout=SECONDS, **options)

@@ -6,19 +6,30 @@ from collections import Counter
 from functools import lru_cache
 from random import Random
 
+from reference.generator.divisions import at_random
+from reference.rules.parts import Replay, feed
 from reference.rules.replay import replay
 
 from .compare import Difference
+from .running_replay import Hangs
 
 PARTS = (1, 2, 3, 7)
 # A file that can't be read comes with one in so many recordings.
 UNREADABLE_EVERY = 20
+# So does the beginning of a recording in one of the other ways, which take longer.
+BEGINNING_EVERY = 7
+LONGEST_BEGINNING = 600
 NEEDED_OF_THE_LIBRARY = "what the library wrote and answered"
 # Besides what the recordings themselves have to reach.
 NEEDED = (
     "one file",
     "standard input",
     "standard input in parts",
+    "standard input from a file",
+    "standard input from a terminal",
+    "lines before the next part",
+    "a read interrupted in a record",
+    "a read interrupted in a length field",
     "files divided in a record",
     "files divided in a length field",
     "an empty file among files",
@@ -59,7 +70,18 @@ class Replays:
         difference = self.compared(lines, way(recording))
         if difference is None and recording and self.recordings % UNREADABLE_EVERY == 0:
             difference = self.check_unreadable(recording)
+        if difference is None and recording and self.recordings % BEGINNING_EVERY == 0:
+            difference = self.check_beginning(recording)
         return difference
+
+    def check_beginning(self, recording):
+        """The same of a recording's first bytes, which come in one of the ways that take longer."""
+        beginning = recording[: self.random.randint(1, LONGEST_BEGINNING)]
+        ways = (self.from_file, self.from_terminal, self.part_by_part, self.interrupted)
+        try:
+            return self.random.choice(ways)(beginning)
+        except Hangs as hangs:
+            return Difference("the program hangs", "it waits for the next part", str(hangs))
 
     def check_answers(self, recording, lines):
         """The same of a recording that the library wrote; the lines tell its answers."""
@@ -90,6 +112,37 @@ class Replays:
         self.ways["standard input in parts"] += 1
         size = self.random.choice(PARTS)
         return self.program.of_parts([recording[place : place + size] for place in range(0, len(recording), size)])
+
+    def from_file(self, recording):
+        """A file as standard input."""
+        self.ways["standard input from a file"] += 1
+        path = pathlib.Path(self.folder.name) / "input"
+        path.write_bytes(recording)
+        return self.compared(replay(recording), self.program.of_input_file(path))
+
+    def from_terminal(self, recording):
+        self.ways["standard input from a terminal"] += 1
+        return self.compared(replay(recording), self.program.of_terminal(recording))
+
+    def part_by_part(self, recording):
+        """A line is printed as soon as its record is whole, before the program waits for the next part."""
+        self.ways["lines before the next part"] += 1
+        # A socket has no empty part.
+        parts = [part for part in at_random(self.random, recording) if part]
+        printed, left = self.program.part_by_part(parts)
+        state = Replay()
+        for place, (part, found) in enumerate(zip(parts, printed), start=1):
+            state, lines = feed(state, part)
+            if found != as_text(lines):
+                return Difference(f"lines after part {place} of {len(parts)}", as_text(lines), found)
+        return self.compared(replay(recording), left)
+
+    def interrupted(self, recording):
+        """A read that is interrupted is not the end: before each of two parts, and before the end."""
+        place = self.random.choice((1, self.random.randint(1, len(recording))))
+        self.ways[f"a read interrupted in {divided(recording, place)}"] += 1
+        parts = [part for part in (recording[:place], recording[place:]) if part]
+        return self.compared(replay(recording), self.program.interrupted(parts))
 
     def one_file(self, recording):
         self.ways["one file"] += 1

@@ -1,9 +1,9 @@
-"""The values of an fp_device, field by field."""
+"""The values of an fp_device, an fp_replay and an fp_fed, field by field."""
 
 import struct
 from ctypes import Array, Structure, c_uint8, c_uint32, c_uint64, sizeof
 
-from .structs import FpDevice
+from .structs import FpDevice, FpFed, FpReplay
 
 # A stored list: a header of 4 bytes, and 16 for each key.
 KEYS_FROM, KEY = 4, 16
@@ -34,8 +34,15 @@ def packing(kind):
     return struct.Struct(f"{codes}{sizeof(kind) - at}x")
 
 
-NAMES = tuple(name for name, _, _ in places(FpDevice))
+def names(kind):
+    return tuple(name for name, _, _ in places(kind))
+
+
+NAMES = names(FpDevice)
 PACKING = packing(FpDevice)
+FED_NAMES = names(FpFed)
+FED_PACKING = packing(FpFed)
+REPLAY_PACKING = packing(FpReplay)
 
 
 def values(device):
@@ -49,7 +56,17 @@ def keys(device):
     return [stored.bytes[place : place + KEY] for place in range(KEYS_FROM, stored.length, KEY)]
 
 
-def differing(ours, theirs):
+def replay_values(replay):
+    """The values of an fp_replay; their names are the first of FED_NAMES."""
+    return REPLAY_PACKING.unpack_from(replay)
+
+
+def fed_values(fed):
+    """The values of an fp_fed, in the order of FED_NAMES."""
+    return FED_PACKING.unpack_from(fed)
+
+
+def differing(ours, theirs, names=NAMES):
     """The places whose values differ, by name: those of the one, and those of the other."""
-    rows = [row for row in zip(NAMES, ours, theirs) if row[1] != row[2]]
+    rows = [row for row in zip(names, ours, theirs) if row[1] != row[2]]
     return {name: a for name, a, _ in rows}, {name: b for name, _, b in rows}

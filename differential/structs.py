@@ -7,6 +7,7 @@ MOST_SALTS = 16
 STORED_LIST_MAX = 164
 NAME_MAX = 64
 FILTER_MAX = 15
+RECORD_MAX = 1_026
 
 
 class FpAddress(Structure):
@@ -100,6 +101,38 @@ class FpElement(Structure):
     _fields_ = [("accepted", c_uint8), ("secret", c_uint8 * 32)]
 
 
+class FpReplay(Structure):
+    _fields_ = [
+        ("device", FpDevice),
+        ("number", c_uint64),
+        ("held", c_uint64),
+        ("skip", c_uint64),
+        ("unfinished", c_uint8 * RECORD_MAX),
+        ("started", c_uint8),
+        ("reserved", c_uint8 * 5),
+    ]
+
+
+class FpLine(Structure):
+    _fields_ = [
+        ("number", c_uint64),
+        ("keys", c_uint64),
+        ("kind", c_uint8),
+        ("answer", c_uint8),
+        ("reserved", c_uint8 * 6),
+    ]
+
+
+class FpFed(Structure):
+    _fields_ = [
+        ("next", FpReplay),
+        ("line", FpLine),
+        ("at", c_uint64),
+        ("status", c_uint8),
+        ("reserved", c_uint8 * 7),
+    ]
+
+
 # Each struct under its name in the header.
 BY_NAME = {
     "fp_address": FpAddress,
@@ -116,4 +149,7 @@ BY_NAME = {
     "fp_outcome": FpOutcome,
     "fp_report": FpReport,
     "fp_element": FpElement,
+    "fp_replay": FpReplay,
+    "fp_line": FpLine,
+    "fp_fed": FpFed,
 }

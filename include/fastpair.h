@@ -11,7 +11,7 @@
  *
  * The calls are reentrant: each works on its arguments alone, so one may interrupt another. The events of one device
  * still go one after the other, since each needs the device that the last one gave back. The archive is for x86-64, the
- * only target of its compiler today, and needs memcpy and memset.
+ * only target of its compiler today, and needs memcpy, memmove and memset.
  *
  * You check nothing first. Any bytes, any length, any link number and any clock get one answer, and a refusal writes
  * nothing to lent memory. The rules are in docs/RULES.md; that these functions keep them is proved.
@@ -150,6 +150,45 @@
  * Begin at a power-on: before the first one that is taken the replay has no device. If every event from a taken power-on
  * on is in the recording, a replay by the same build shows the answers that the events got. After a power-on that was
  * refused serve no events until one is taken, as fp_power_on says: the replay would go on with the device that it has.
+ *
+ * Replaying: the program fp_replay reads files and standard input. A tool that has the recording from elsewhere, as that of
+ * a debug probe, feeds the replay itself, in parts as they come. All state is in an fp_replay, which you hold and hand in
+ * by value; every call gives back the next one:
+ *
+ *     fp_replay replay = fp_replay_start();
+ *
+ *     for every part that comes, `length` bytes:
+ *         for (size_t at = 0; at < length;) {
+ *             fp_fed fed = fp_replay_feed(replay, part, length, at);
+ *             replay = fed.next;
+ *             at = fed.at;
+ *             if (fed.status == FP_LINE_SHOWN) print fed.line
+ *         }
+ *
+ *     when the recording has ended, once:
+ *         fp_fed fed = fp_replay_end(replay);
+ *         if (fed.status == FP_LINE_SHOWN) print fed.line
+ *
+ * A call gives at most one line, and says where the next call goes on in the same part. The lines of all parts and of the
+ * end are those of the joined recording, wherever it was divided: that is proved. The program of the same version prints
+ * the same.
+ *
+ * A part is any bytes: some of a record, many records, or none. It may end anywhere, also within a length field. An empty
+ * part gives no line and changes nothing. It is not the end: if the probe has nothing at the moment, go on. The recording
+ * ends with fp_replay_end, and with nothing else.
+ *
+ * The line of a record comes with the record's last byte. A record of more than 1,024 bytes after its length field is
+ * skipped and is one marker, however it is divided: its bytes are not kept, and its line, too, comes with the last of them.
+ * If the recording ends within a record, that is a cut record: fp_replay_end gives the line of one marker, also if the
+ * record is too long as well. If it ends behind a whole record, or is empty, fp_replay_end gives no line.
+ *
+ * A part is lent for the call alone and never written. The fp_replay keeps what it needs of it: at most one record that is
+ * not whole yet. It has 1,768 bytes, however long the recording is. You check nothing first: any bytes have their lines,
+ * and an fp_replay that is none gets FP_NOT_A_REPLAY, with which the loop above ends too.
+ *
+ * An fp_replay holds the owners' keys and bytes of the recording: it is a secret as the recording is. Wipe every old copy
+ * that you leave, those in an fp_fed and the parts too. Only a program that calls these functions links them: firmware
+ * has nothing of the replay in it. examples/probe.c is a whole tool.
  */
 #ifndef FASTPAIR_H
 #define FASTPAIR_H
@@ -159,9 +198,9 @@
 #include <stdint.h>
 
 /* The version of this interface; docs/CHANGES.md says what changed. */
-#define FP_VERSION "4.6.0"
+#define FP_VERSION "4.7.0"
 #define FP_VERSION_MAJOR 4
-#define FP_VERSION_MINOR 6
+#define FP_VERSION_MINOR 7
 #define FP_VERSION_PATCH 0
 
 #ifdef __cplusplus
@@ -231,6 +270,33 @@ enum { FP_NAME_MAX = 64, FP_PACKET_MAX = 80 };
 
 /* the longest record of an event: a length field of 2 bytes, and at most 1,024 after it */
 enum { FP_RECORD_MAX = 1026 };
+
+/* the kinds of event: the kind byte of a record, and fp_line.kind; docs/RECORDING.md has the name of each */
+enum {
+    FP_KIND_MARKER = 0x01,
+    FP_KIND_LINK_UP = 0x02,
+    FP_KIND_LINK_DOWN = 0x03,
+    FP_KIND_PAIRING_MODE = 0x04,
+    FP_KIND_ADDRESS_ROTATED = 0x05,
+    FP_KIND_POWER_ON = 0x06,
+    FP_KIND_FACTORY_RESET = 0x07,
+    FP_KIND_KEY_BASED_WRITE = 0x08,
+    FP_KIND_PAIRING_STARTED = 0x09,
+    FP_KIND_CONFIRMATION_NEEDED = 0x0A,
+    FP_KIND_PASSKEY_WRITE = 0x0B,
+    FP_KIND_PAIRING_ENDED = 0x0C,
+    FP_KIND_ACCOUNT_KEY_WRITE = 0x0D,
+    FP_KIND_NAME_WRITE = 0x0E
+};
+
+/* what came of feeding the replay: fp_fed.status */
+enum {
+    FP_PART_READ = 0,     /* no line: the part is read to its end. Of fp_replay_end: the recording ended behind a whole
+                             record, or was empty */
+    FP_LINE_SHOWN = 1,    /* fp_fed.line is the line of one event */
+    FP_NOT_A_REPLAY = 255 /* the fp_replay handed in is none; it comes back as it was, there is no line, and nothing of the
+                             part is read: `at` is behind it, so that a loop over it ends */
+};
 
 /* ---- types */
 
@@ -359,6 +425,44 @@ typedef struct {
     uint8_t secret[32];
 } fp_element;
 
+/* A replay between two calls: read it as you like, hand it in as you got it. It has no padding, and equal replays are equal
+ * byte by byte.
+ *
+ * FP_NOT_A_REPLAY is the status for a `device` that is none (see fp_device), a `started` above 1, a `held` above 1,025, a
+ * `held` and a `skip` that are both not 0, and held bytes that are no beginning of a record: two or more, whose length
+ * field says more than 1,024, or no more than stand behind it already. Any other bytes are replayed as they stand, those of
+ * `number` and of a `skip` that no record would leave too, and so is a device with `started` 0: it gets no event, and comes
+ * back until a power-on is taken. Not looked at, and zero in the replay that comes back: bytes of `unfinished` past `held`,
+ * what is reserved, and of the device what fp_device names. With FP_NOT_A_REPLAY every byte comes back as it was. */
+typedef struct {
+    fp_device device;                  /* after the last event; fp_off() before the first power-on that is taken */
+    uint64_t number;                   /* of the last event, in 64 bits: how many lines there were */
+    uint64_t held;                     /* how many bytes of `unfinished` are in use, 0 to 1,025 */
+    uint64_t skip;                     /* bytes of a record that is too long, still to be skipped; if not 0, `held` is 0 */
+    uint8_t unfinished[FP_RECORD_MAX]; /* the record that is not whole yet, with its length field: the first `held` bytes;
+                                          the others are zero */
+    uint8_t started;                   /* 1 once a power-on was taken */
+    uint8_t reserved[5];
+} fp_replay;
+
+/* The line of one event, as the program prints it; all zeros where there is none. Before the first power-on that is taken
+ * there is no device: every event, marker too, has answer 14 and 0 keys. */
+typedef struct {
+    uint64_t number; /* the event's, from 1 on */
+    uint64_t keys;   /* how many account keys the list then holds */
+    uint8_t kind;    /* FP_KIND_.. */
+    uint8_t answer;  /* 0 to 16 */
+    uint8_t reserved[6];
+} fp_line;
+
+typedef struct {
+    fp_replay next;
+    fp_line line;   /* with FP_LINE_SHOWN, else zeros */
+    uint64_t at;    /* where the next call goes on in the same part */
+    uint8_t status; /* FP_PART_READ, FP_LINE_SHOWN or FP_NOT_A_REPLAY */
+    uint8_t reserved[7];
+} fp_fed;
+
 /* The archive's layout on x86-64, where alone it links: a compiler that lays these out otherwise stops here. */
 #if !defined(__x86_64__) || defined(__ILP32__) || defined(_WIN32)
 #error "libfastpair.a is for x86-64 with 64-bit pointers and System V calls. There is no archive for this target."
@@ -379,6 +483,9 @@ FP_LAYOUT(sizeof(fp_start) == 17 && sizeof(fp_element) == 33 && sizeof(fp_bond) 
 FP_LAYOUT(sizeof(fp_reply) == 13 && offsetof(fp_reply, packet_length) == 3 && offsetof(fp_reply, named) == 4);
 FP_LAYOUT(offsetof(fp_reply, rotate) == 5 && offsetof(fp_reply, bond) == 6);
 FP_LAYOUT(sizeof(fp_outcome) == 728 && sizeof(fp_report) == 16);
+FP_LAYOUT(sizeof(fp_replay) == 1768 && offsetof(fp_replay, held) == 720 && offsetof(fp_replay, unfinished) == 736);
+FP_LAYOUT(offsetof(fp_replay, started) == 1762 && sizeof(fp_line) == 24 && offsetof(fp_line, kind) == 16);
+FP_LAYOUT(sizeof(fp_fed) == 1808 && offsetof(fp_fed, at) == 1792 && offsetof(fp_fed, status) == 1800);
 #undef FP_LAYOUT
 #endif
 
@@ -558,6 +665,35 @@ fp_report fp_record_account_key_write(uint8_t link, uint64_t clock, const uint8_
                                       uint8_t *record, size_t record_length);
 fp_report fp_record_name_write(uint8_t link, uint64_t clock, const uint8_t *packet, size_t packet_length,
                                uint8_t *record, size_t record_length);
+
+/* ---- replaying: a recording in parts, as docs/RECORDING.md says how one is read (see "Replaying" above) */
+
+/* The replay before the first part: no event, nothing unfinished, and fp_off() as its device. A replay filled with zeros
+ * is none, as a device filled with zeros is none. */
+fp_replay fp_replay_start(void);
+
+/* Reads `part` from the place `at` on, which is 0 for a new part: to the end of one record, or to the end of the part.
+ *
+ *     FP_LINE_SHOWN    a record became whole. `line` is its line, and `at` the place behind it: at least 1 more than was
+ *                      handed in. If that is less than `length`, call again with the same part and this `at`
+ *     FP_PART_READ     the part ended before a record did. `next` keeps what came of it, and `at` is `length`, so the call
+ *                      after it is for the next part. An `at` that is not less than `length` reads nothing, as an empty
+ *                      part does: `next` is the replay that was handed in, and `at` the place
+ *     FP_NOT_A_REPLAY  nothing is read. `next` is what was handed in, byte by byte, and `at` is as with FP_PART_READ
+ *
+ * Do not hand in the same bytes twice: after each call go on with `next` and `at` of that call. */
+fp_fed fp_replay_feed(fp_replay replay, const uint8_t *part, size_t length, size_t at);
+
+/* The recording ends. No part says so: call this once, behind the last one.
+ *
+ *     FP_LINE_SHOWN    the last record is cut: some bytes of it were held, or some still to be skipped. `line` is that of
+ *                      one marker
+ *     FP_PART_READ     the recording ended behind a whole record, or was empty
+ *     FP_NOT_A_REPLAY  `next` is what was handed in, byte by byte
+ *
+ * But for FP_NOT_A_REPLAY, `next` has the device and the number of events at the end, and nothing unfinished. `at` is 0. For
+ * another recording begin with fp_replay_start. */
+fp_fed fp_replay_end(fp_replay replay);
 
 #ifdef __cplusplus
 }

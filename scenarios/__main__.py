@@ -5,6 +5,7 @@ import sys
 
 from differential.build import build_program
 from differential.library import load
+from differential.library_replay import LibraryReplay
 from differential.replay_program import ReplayProgram
 from differential.report import archive, program
 from differential.setup_error import SetupError
@@ -33,8 +34,9 @@ def sides(options):
     if options.write or options.without_library:
         return [SecondProgram]
     library, replay_program = load(), ReplayProgram(build_program())
+    library_replay = LibraryReplay(library.functions)
     print(f"{archive()}\n{program()}")
-    return [SecondProgram, lambda: BuiltLibrary(library, replay_program)]
+    return [SecondProgram, lambda: BuiltLibrary(library, replay_program, library_replay)]
 
 
 def compare(texts, makers):

@@ -87,6 +87,18 @@ class Lost:
 
 
 @dataclass(frozen=True)
+class Part:
+    """A part of a recording that is fed: the record of an event, or bytes as they are."""
+
+    added: object
+
+
+@dataclass(frozen=True)
+class RecordingEnds:
+    """No part comes any more."""
+
+
+@dataclass(frozen=True)
 class RecordAsked:
     """The record of an event, to be written out."""
 
@@ -95,7 +107,7 @@ class RecordAsked:
 
 
 # What changes the recording; the result is what the replay then prints more.
-OF_RECORDINGS = (NewRecording, Recorded, Lost)
+OF_RECORDINGS = (NewRecording, Recorded, Lost, Part, RecordingEnds)
 
 
 def asked(text):
@@ -265,15 +277,28 @@ def new_recording(fields):
     return NewRecording()
 
 
+def recording_ends(fields):
+    return RecordingEnds()
+
+
 def recorded(words):
     """ "recorded  link up, link 0, clock 0", or "recorded  bytes 00020101" """
+    return Recorded(event_or_bytes(words))
+
+
+def part(words):
+    """The same of a part, or "part  no bytes" """
+    return Part(b"" if words == "no bytes" else event_or_bytes(words))
+
+
+def event_or_bytes(words):
     if not words.startswith("bytes "):
-        return Recorded(event_of(*kind_first(words)))
+        return event_of(*kind_first(words))
     fields = Fields(words)
     data = fields.bytes("bytes")
     data = resized(fields, data, len(data))
     fields.check_all_taken()
-    return Recorded(data)
+    return data
 
 
 def lost(words):
@@ -321,6 +346,7 @@ KINDS = {
     "name": name_asked,
     "filter": filter_asked,
     "new recording": new_recording,
+    "recording ends": recording_ends,
 }
 # Their first field is the kind of an event.
-WITH_AN_EVENT = {"recorded": recorded, "lost": lost, "record": record_asked}
+WITH_AN_EVENT = {"recorded": recorded, "part": part, "lost": lost, "record": record_asked}

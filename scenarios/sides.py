@@ -1,9 +1,10 @@
 """The two that answer: the second program and the built library."""
 
+from types import ModuleType
 from typing import Callable, NamedTuple
 
 from differential.guarded_memory import InterfaceViolation
-from reference.rules import advertising, lent_output, model, recording, replay, stored_list
+from reference.rules import advertising, lent_output, model, parts, recording, replay, stored_list
 from reference.rules.device import MOST_KEYS
 from reference.rules.events import LENDING, Overflow, PowerOn, Reply
 from reference.rules.model import RESPONSE_SIZE
@@ -16,8 +17,10 @@ from .lines import (
     Lost,
     NameAsked,
     NewRecording,
+    Part,
     PayloadAsked,
     RecordAsked,
+    RecordingEnds,
     Repeated,
     StoredListAsked,
 )
@@ -37,13 +40,15 @@ class Rules(NamedTuple):
     put_or_refuse: Callable
     write_record: Callable
     replay: Callable
+    # The replay by parts: a Replay, `feed`, `read_on` and `end`.
+    parts: ModuleType
 
 
 # The modules that the rules are taken of.
-MODULES = ("model", "stored_list", "advertising", "lent_output", "recording", "replay")
+MODULES = ("model", "stored_list", "advertising", "lent_output", "recording", "replay", "parts")
 
 
-def rules_of(model, stored_list, advertising, lent_output, recording, replay):
+def rules_of(model, stored_list, advertising, lent_output, recording, replay, parts):
     """The rules of these modules, which are those of MODULES in their order."""
     return Rules(
         model.step,
@@ -52,24 +57,29 @@ def rules_of(model, stored_list, advertising, lent_output, recording, replay):
         lent_output.put_or_refuse,
         recording.write_record,
         replay.replay,
+        parts,
     )
 
 
-RIGHT_RULES = rules_of(model, stored_list, advertising, lent_output, recording, replay)
+RIGHT_RULES = rules_of(model, stored_list, advertising, lent_output, recording, replay, parts)
 
 
 class Side:
-    """One that answers; `one_result`, `record` and `replayed` are its own."""
+    """One that answers; `one_result`, `record`, `replayed`, `begin`, `feed` and `end` are its own."""
 
     def __init__(self):
-        self.recording = b""
-        self.printed = 0
-        self.in_loss = False
+        self.begin_recording()
+
+    def begin_recording(self):
+        """No record is there, and no part."""
+        self.recording, self.printed, self.in_loss = b"", 0, False
+        self.parts, self.fed_lines = [], []
 
     def result(self, asked):
         """The result of what a line asks."""
         if isinstance(asked, OF_RECORDINGS):
-            return self.printed_more(asked)
+            fed = isinstance(asked, (Part, RecordingEnds))
+            return Result(Reply(0), lines=tuple(self.fed(asked) if fed else self.printed_more(asked)))
         if isinstance(asked, RecordAsked):
             return self.record(asked.event, asked.out)
         if isinstance(asked, BroughtTo):
@@ -92,12 +102,12 @@ class Side:
     def printed_more(self, asked):
         """The lines that the replay prints more than before this line."""
         if isinstance(asked, NewRecording):
-            self.recording, self.printed, self.in_loss = b"", 0, False
+            self.begin_recording()
         else:
             self.recording += self.added(asked)
         lines = self.replayed(self.recording)
         more, self.printed = lines[self.printed :], len(lines)
-        return Result(Reply(0), lines=tuple(more))
+        return more
 
     def added(self, asked):
         """The bytes that the recording gains."""
@@ -105,7 +115,30 @@ class Side:
         self.in_loss = isinstance(asked, Lost)
         if self.in_loss:
             return self.written_record(Overflow()) if first_lost else b""
-        return asked.added if isinstance(asked.added, bytes) else self.written_record(asked.added)
+        return self.bytes_of(asked.added)
+
+    def fed(self, asked):
+        """The lines of a part that is fed, or of the recording's end."""
+        if not self.parts:
+            self.begin()
+        if isinstance(asked, RecordingEnds):
+            lines = self.end()
+            self.check_joined(lines)
+        else:
+            self.parts.append(self.bytes_of(asked.added))
+            lines = self.feed(self.parts[-1])
+        self.fed_lines += lines
+        return lines
+
+    def check_joined(self, last):
+        """ "The printed lines .. and any cut record are those of the joined recording" """
+        joined = self.replayed(b"".join(self.parts))
+        if self.fed_lines + last != joined:
+            raise InterfaceViolation(f"fed: {', '.join(self.fed_lines + last)}; joined: {', '.join(joined)}")
+
+    def bytes_of(self, added):
+        """Bytes as they are, or the record of an event."""
+        return added if isinstance(added, bytes) else self.written_record(added)
 
     def written_record(self, event):
         """The record of an event; what the writer refuses is missing."""
@@ -146,14 +179,26 @@ class SecondProgram(Side):
     def replayed(self, recording):
         return self.rules.replay(recording)
 
+    def begin(self):
+        self.replay = self.rules.parts.Replay()
+
+    def feed(self, part):
+        self.replay, lines = self.rules.parts.feed(self.replay, part)
+        return lines
+
+    def end(self):
+        self.replay, line = self.rules.parts.end(self.replay)
+        return [line] if line else []
+
 
 class BuiltLibrary(Side):
     name = "the library"
 
-    def __init__(self, library, program):
+    def __init__(self, library, program, library_replay=None):
         super().__init__()
         self.library = library
         self.program = program
+        self.library_replay = library_replay
         self.device = library.off()
 
     def one_result(self, asked):
@@ -178,6 +223,17 @@ class BuiltLibrary(Side):
         if printed.error or printed.code:
             raise InterfaceViolation(f"fp_replay: exit code {printed.code}, {printed.error}")
         return printed.out.splitlines()
+
+    def begin(self):
+        self.replay = self.library_replay.start()
+
+    def feed(self, part):
+        self.replay, lines = self.library_replay.lines_of(self.replay, part)
+        return lines
+
+    def end(self):
+        self.replay, lines = self.library_replay.line_of_end(self.replay)
+        return lines
 
 
 def event_result(event, reply):

@@ -14,7 +14,16 @@ from scenarios.texts import read_all
 from .copies import wrong_rules
 from .edits import UNCHANGED, all_edits
 from .edits.edit import Edit, EditError
-from .find import OF_RECORDINGS, by_random_events, by_random_recordings, by_scenarios, random_recordings, random_runs
+from .find import (
+    OF_PARTS,
+    OF_RECORDINGS,
+    by_random_events,
+    by_random_parts,
+    by_random_recordings,
+    by_scenarios,
+    random_recordings,
+    random_runs,
+)
 
 # Events of a run, as in the differential test.
 LENGTH = 500
@@ -64,6 +73,8 @@ def look(edit, number, folder, texts, runs, recordings):
 
 def by_random(edit, rules, runs, recordings):
     """After how many random events it is found; nothing else than recordings shows some of them."""
+    if edit.file == OF_PARTS:
+        return by_random_parts(rules, recordings)
     if edit.file in OF_RECORDINGS:
         return by_random_recordings(rules, runs, recordings)
     return by_random_events(rules, runs)

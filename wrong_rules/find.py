@@ -1,6 +1,9 @@
 """Whether a wrong rule is found: by the scenarios, and by random events and recordings beside the right rules."""
 
+from random import Random
+
 from differential.records import Records
+from reference.generator.divisions import at_random, with_empty_parts
 from reference.generator.generate import Generator
 from reference.generator.recordings import of_a_run
 from scenarios.names import lent
@@ -42,9 +45,12 @@ FIRST = {
     "record_layout": ("records", "recording_bad_records"),
     "recording": ("records", "recording_bad_records", "recording_cut_end", "recording_lengths"),
     "replay": ("recording_before_power_on", "recording_refused_power_on", "recording_lost_stretch"),
+    "parts": ("recording_in_parts",),
 }
 # Their wrong rules show in records and replays, and in no reply.
 OF_RECORDINGS = ("record_layout", "recording", "replay")
+# Its wrong rules show in recordings that come in parts.
+OF_PARTS = "parts"
 
 
 def by_scenarios(rules, texts, file):
@@ -113,6 +119,26 @@ def by_random_recordings(rules, runs, recordings):
             if rules.replay(recording) != lines:
                 return count
     return None
+
+
+def by_random_parts(rules, recordings):
+    """After how many events the wrong rules show another line of a recording in parts; None if they never do."""
+    random, count = Random(0), 0
+    for recording, lines in (found for recorded in recordings for found in recorded):
+        count += len(lines)
+        if fed_lines(rules.parts, with_empty_parts(random, at_random(random, recording))) != lines:
+            return count
+    return None
+
+
+def fed_lines(rules, parts):
+    """The lines of a recording in parts."""
+    replay, lines = rules.Replay(), []
+    for part in parts:
+        replay, more = rules.feed(replay, part)
+        lines += more
+    _, cut = rules.end(replay)
+    return lines + [cut] if cut else lines
 
 
 def step_shown(rules, device, event):

@@ -1,1 +1,1 @@
-"""Document 01 with requests (i) to (iii) and (v) to (vii) of document 02: a device, its events, answers, recordings."""
+"""Document 01 with requests (i) to (iii) and (v) to (viii) of document 02: a device, its events, answers, recordings."""

@@ -5,15 +5,26 @@ from .model import step
 from .record_layout import BY_EVENT
 from .recording import read_recording
 
+# "its number from 1 on (in 64 bits)"
+NUMBERS = 2**64
+
 
 def replay(recording):
-    """ "its number, kind, answer and list size, single spaces between, no header" """
-    device, lines = None, []
-    for number, event in enumerate(read_recording(recording), start=1):
-        device, answer = replayed(device, event)
-        keys = len(device.keys) if device else 0
-        lines.append(f"{number} {BY_EVENT[type(event)].name} {answer} {keys}")
+    """The lines of a whole recording."""
+    device, number, lines = None, 0, []
+    for event in read_recording(recording):
+        device, number, line = next_line(device, number, event)
+        lines.append(line)
     return lines
+
+
+def next_line(device, number, event):
+    """The next device, the number of events up to here, and the line of this one."""
+    device, answer = replayed(device, event)
+    number = (number + 1) % NUMBERS
+    keys = len(device.keys) if device else 0
+    # "its number, kind, answer and list size, single spaces between, no header"
+    return device, number, f"{number} {BY_EVENT[type(event)].name} {answer} {keys}"
 
 
 def replayed(device, event):

@@ -26,6 +26,7 @@ from . import (
     name,
     name_packet,
     pairing,
+    parts,
     record_layout,
     recording,
     replay,
@@ -52,6 +53,7 @@ MODULES = (
     record_layout,
     recording,
     replay,
+    parts,
 )
 
 # Copies with no wrong rule, which nothing may find; every other file uses one of these two.

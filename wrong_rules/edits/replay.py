@@ -1,17 +1,18 @@
 """The replay of a recording."""
 
 LINE = 'f"{number} {BY_EVENT[type(event)].name} {answer} {keys}"'
-ADDED = f"        lines.append({LINE})\n"
+ADDED = "        lines.append(line)\n"
 KEYS = "len(device.keys) if device else 0"
-COUNTED = f"        keys = {KEYS}\n"
+COUNTED = f"    keys = {KEYS}\n"
 EARLY = "    if device is None and not isinstance(event, PowerOn):\n        return None, 14\n"
 # A device without keys, and its answer before the first power-on.
 NO_KEYS = 'step(None, PowerOn(bytes((0, 2, 2, 0)), b"", bytes(6), bytes(6), bytes(3), bytes(2)))[0]'
 BY_NO_KEYS = EARLY.replace("        return", f"        answer = step({NO_KEYS}, event)[1].answer\n        return")
 STEP = "    device, reply = step(device, event)\n"
 ANSWER = "    return device, reply.answer\n"
-BEGIN = "    device, lines = None, []\n"
-STEPPED = "        device, answer = replayed(device, event)\n"
+BEGIN = "    device, number, lines = None, 0, []\n"
+STEPPED = "    device, answer = replayed(device, event)\n"
+NUMBERED = "    number = (number + 1) % NUMBERS\n"
 
 
 def refused(change):
@@ -20,12 +21,12 @@ def refused(change):
 
 
 EDITS = (
-    ("lines are numbered from 0", "start=1", "start=0"),
+    ("lines are numbered from 0", BEGIN, BEGIN.replace("0", "-1")),
     ("no line has a number", LINE, LINE.replace("{number} ", "")),
     (
         "the number is that of the line since power-on",
-        STEPPED,
-        STEPPED + "        number = 1 if isinstance(event, PowerOn) and not answer else number\n",
+        NUMBERED,
+        NUMBERED + "    number = 1 if isinstance(event, PowerOn) and not answer else number\n",
     ),
     ("a line is missing for a marker", ADDED, '        if BY_EVENT[type(event)].name != "marker":\n    ' + ADDED),
     ("a header is printed", BEGIN, BEGIN.replace("[]", '["number kind answer size"]')),
@@ -36,7 +37,7 @@ EDITS = (
     ("no size is shown", LINE, LINE.replace(" {keys}", "")),
     ("the answer has two digits", LINE, LINE.replace("{answer}", "{answer:02}")),
     ("a space stands at the end", LINE, LINE.replace("{keys}", "{keys} ")),
-    ("the size is that before the event", STEPPED + COUNTED, COUNTED + STEPPED),
+    ("the size is that before the event", STEPPED + NUMBERED + COUNTED, COUNTED + STEPPED + NUMBERED),
     ("the size before power-on is not 0", KEYS, KEYS.replace("else 0", "else 1")),
     (
         "the size before power-on is that of a refused list",

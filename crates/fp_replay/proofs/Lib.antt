@@ -1,6 +1,3 @@
-pub mod Carried
-pub mod Decimal
+pub mod Joined
 pub mod Laws
-pub mod Lines
-pub mod Samples
 pub mod Turns

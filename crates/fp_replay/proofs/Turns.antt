@@ -1,141 +1,133 @@
--- A turn of the loop over a part: what is drained from there on stays the same, up to the last whole record.
+-- A step of the loop over a part: what is to come from there on stays the same, up to the end of the part.
 -- Assumes nothing.
-use mathlib.Core.Bool.{true, false, false≢true}
-use mathlib.Core.List.{List}
+use mathlib.Core.List.{List, []}
 use mathlib.Core.Path.{_≡_, refl, sym, ap, subst, _∙_}
-use Prim.Native.Nat.{ℕ, _+_, _-_, _*_, _<_, _≤_}
+use Prim.Native.Nat.{ℕ, _+_, _-_, _<_, _≤_}
 use native.Mathlib.Omega.{arith}
-use lib.ListN.{length, drop}
+use lib.ListN.{length}
 use lib.Seq.{length-paste}
-use Rattle.laws.specs.Choice.{if_then_else_}
-use Rattle.provider.specs.Demands.Validity.{Valid}
-use Rattle.provider.specs.Rules.Event.{Event}
-use Rattle.recording.specs.Reading.{Division, noRecord, after, divide, eventIn, nextAt, part}
-use Rattle.recording.specs.declared.reader.Next.{Next}
-use Rattle.recording.specs.declared.reader.Next.the-variants.{Record, Cut, End}
-use Rattle.replay.proofs.Theorems.Valid.{shows-valid}
-use Rattle.replay.specs.Replay.{shown, linesFrom, afterEvents}
+use Rattle.replay.proofs.Theorems.Parts.{toCome, lineAnd, come-all, come-step, come-end, step-reads-on, stays-ready, part-ready, start-ready}
+use Rattle.replay.specs.Parts.{startStream, Ready, fed, ended}
+use Rattle.replay.specs.Promises.{Lines, fedPart, lineOf}
 use Rattle.replay.specs.declared.Line.{Line}
-use Rattle.replay.specs.declared.Replay.{Replay}
-use Rattle.replay.specs.declared.Shown.{Shown}
-use Rattle.recording.proofs.Walking.{Walk, walk}
-use Rattle.fp_replay.specs.Reading.{Output, linePlace, printed, printedAll, state, drained, shownTurn, shownOutput, stopped, turned, turnedOutput}
-use Rattle.fp_replay.specs.Text.{text}
+use Rattle.replay.specs.declared.parts.Ended.{Ended}
+use Rattle.replay.specs.declared.parts.Fed.{Fed}
+use Rattle.replay.specs.declared.parts.Printed.{Printed}
+use Rattle.replay.specs.declared.parts.Printed.the-variants.{Nothing, One}
+use Rattle.replay.specs.declared.parts.Stream.{Stream}
+use Rattle.replay_text.specs.Text.{text}
+use Rattle.fp_replay.specs.Reading.{Output, unused, linePlace, printed, printedAll, State, state, drained, printedOf, turned, turnedOutput, finished}
 use Rattle.fp_replay.specs.declared.part.Turn.{Turn}
 
--- a record that was shown and printed
-pub shown-printed : (t : Turn) (e : Event) (end : ℕ) (out out′ : List ℕ) (s : Shown) (n : ℕ) → s ≡ shown (t .replay) e
-    → record { bytes = out′; filled = n } ≡ printed (record { bytes = out; filled = t .filled }) (s .line)
-    → (record { replay = s .next; at = end; filled = n; more = true } ≡ shownTurn t e end out) × (out′ ≡ shownOutput t e out)
-shown-printed t e end out out′ s n p q =
-    let o : Output = record { bytes = out; filled = t .filled } in
-    let told : record { bytes = out′; filled = n } ≡ printed o (shown (t .replay) e .line) =
-    q ∙ ap (λ (x : Shown). printed o (x .line)) p
+-- ---- one step
+
+-- its line, if there is one, was printed
+pub turn-of : (t : Turn) (out out′ : List ℕ) {f g : Fed} {n : ℕ} {p : Printed} → f ≡ g → f .line ≡ p
+    → record { bytes = out′; filled = n } ≡ printedOf (record { bytes = out; filled = t .filled }) p
+    → (record { stream = f .next; at = f .at; filled = n } ≡ turned t g out) × (out′ ≡ turnedOutput t g out)
+turn-of t out out′ {f} {g} {n} {p} e q o =
+    let told : record { bytes = out′; filled = n } ≡ printedOf (record { bytes = out; filled = t .filled }) (g .line) =
+    o ∙ ap (printedOf (record { bytes = out; filled = t .filled })) (sym q ∙ ap (λ (x : Fed). x .line) e)
     in
-    ((λ i. record { replay = p i .next; at = end; filled = told i .filled; more = true }), ap (λ (x : Output). x .bytes) told)
-
--- a whole record in front: its event is shown, and then the others
-pub drain-record : (r : Replay) (o : Output) (b : List ℕ) (d : Division)
-    → drained r o (after b d) ≡ drained (shown r (eventIn b) .next) (printed o (shown r (eventIn b) .line)) d
-unfolding drained printedAll linesFrom afterEvents
-drain-record r o b d = refl
-
--- none in front: nothing changes
-pub drain-none : (r : Replay) (out : List ℕ) (n : ℕ) (bs : List ℕ)
-    → drained r (record { bytes = out; filled = n }) (noRecord bs) ≡ state r out n bs
-unfolding drained printedAll linesFrom afterEvents
-drain-none r out n bs = refl
+    ((λ i. record { stream = e i .next; at = e i .at; filled = told i .filled }), ap (λ (x : Output). x .bytes) told)
 
 -- ---- the loop
 
--- what is still to come: two for each byte, and one for a turn that may find nothing
-abbrev pub toCome : List ℕ → Turn → ℕ
-toCome bytes t = (length bytes - t .at) * 2 + (if t .more then 1 else 0)
+-- the state behind what is to come
+abbrev comes : Output → Lines → State
+comes o l = record { stream = l .next; output = printedAll o (l .lines) }
 
--- a turn of the loop that began with t₀ and out₀: from here on is drained what was to be drained from there
-pub record Ahead (bytes out₀ : List ℕ) (t₀ : Turn) (out : List ℕ) (t : Turn) : Type 0 where
-  pub valid : Valid (t .replay .device)
-  pub within : t .at ≤ length bytes
+comes-on : (o : Output) (p : Printed) (l : Lines) → comes o (lineAnd p l) ≡ comes (printedOf o p) l
+unfolding printedAll
+comes-on o Nothing l = refl
+comes-on o (One x) l = refl
+
+-- a turn of the loop that began with s₀ and out₀: from here on comes what was to come from there
+pub record Ahead (bs out₀ : List ℕ) (s₀ : Stream) (out : List ℕ) (t : Turn) : Type 0 where
+  pub ready : Ready (t .stream)
+  pub within : t .at ≤ length bs
   pub room : t .filled ≤ length out
   pub long : length out ≡ length out₀
-  pub same : drained (t .replay) (record { bytes = out; filled = t .filled }) (divide (drop (t .at) bytes))
-      ≡ drained (t₀ .replay) (record { bytes = out₀; filled = t₀ .filled }) (divide bytes)
-  pub last : t .more ≡ false → divide (drop (t .at) bytes) ≡ noRecord (drop (t .at) bytes)
+  pub same : comes (record { bytes = out; filled = t .filled }) (toCome (t .stream) bs (t .at)) ≡ drained s₀ (unused out₀) bs
 
-module _ (bytes out₀ : List ℕ) (t₀ : Turn) (out : List ℕ) (t : Turn) (a : Ahead bytes out₀ t₀ out t) where
-  printed-long : (l : Line) → printed (record { bytes = out; filled = t .filled }) l .filled ≤ length out
-      → length (printed (record { bytes = out; filled = t .filled }) l .bytes) ≡ length out
-  printed-long l h = length-paste out (linePlace (length out) (t .filled)) (text l) (length (text l)) h (omega arith)
-
-  shown-ahead : (s e : ℕ) → Walk bytes (t .at) (Record s e) → turned t bytes out (Record s e) .filled ≤ length out
-      → Ahead bytes out₀ t₀ (turnedOutput t bytes out (Record s e)) (turned t bytes out (Record s e))
-  shown-ahead s e w h =
-      let event = eventIn (part s (e - s) bytes) in
-      let o : Output = record { bytes = out; filled = t .filled } in
-      let kept = printed-long (shown (t .replay) event .line) h in
-      record {
-        valid = shows-valid (t .replay) event (a .valid);
-        within = w .2;
-        room = rw kept h;
-        long = kept ∙ a .long;
-        same = sym (drain-record (t .replay) o (part s (e - s) bytes) (divide (drop e bytes)))
-            ∙ ap (drained (t .replay) o) (sym (w .3))
-            ∙ a .same;
-        last = λ m. absurd (false≢true (sym m));
-      }
-
-  stopped-ahead : divide (drop (t .at) bytes) ≡ noRecord (drop (t .at) bytes) → Ahead bytes out₀ t₀ out (stopped t)
-  stopped-ahead d =
-      record {
-        valid = a .valid;
-        within = a .within;
-        room = a .room;
-        long = a .long;
-        same = a .same;
-        last = λ m. d;
-      }
-
-  ahead-by : (n : Next) → Walk bytes (t .at) n → turned t bytes out n .filled ≤ length out
-      → Ahead bytes out₀ t₀ (turnedOutput t bytes out n) (turned t bytes out n)
-  ahead-by (Record s e) w h = shown-ahead s e w h
-  ahead-by Cut w h = stopped-ahead w
-  ahead-by End w h = stopped-ahead w
-
-  fewer-by : (n : Next) → Walk bytes (t .at) n → t .more ≡ true → toCome bytes (turned t bytes out n) < toCome bytes t
-  fewer-by (Record s e) w m = rw m (omega (arith, w .0, w .1, w .2, a .within))
-  fewer-by Cut w m = rw m (omega arith)
-  fewer-by End w m = rw m (omega arith)
-
-  module _ {r : Turn} {out′ : List ℕ} (p : r ≡ turned t bytes out (nextAt bytes (t .at))) (q : out′ ≡ turnedOutput t bytes out (nextAt bytes (t .at))) (h : r .filled ≤ length out) where
-    pub ahead-again : Ahead bytes out₀ t₀ out′ r
-    ahead-again =
-        let n = nextAt bytes (t .at) in
-        let room : turned t bytes out n .filled ≤ length out = subst (λ (x : Turn). x .filled ≤ length out) p h in
-        let next = ahead-by n (walk bytes (t .at)) room in
-        subst (λ (x : Turn). Ahead bytes out₀ t₀ out′ x) (sym p)
-        (subst (λ (l : List ℕ). Ahead bytes out₀ t₀ l (turned t bytes out n)) (sym q) next)
-
-    pub fewer-again : t .more ≡ true → toCome bytes r < toCome bytes t
-    fewer-again m =
-        subst (λ (x : Turn). toCome bytes x < toCome bytes t) (sym p) (fewer-by (nextAt bytes (t .at)) (walk bytes (t .at)) m)
-
-  -- after the last whole record
-  pub all-drained : t .more ≡ false
-      → state (t .replay) out (t .filled) (drop (t .at) bytes)
-      ≡ drained (t₀ .replay) (record { bytes = out₀; filled = t₀ .filled }) (divide bytes)
-  all-drained m =
-      sym (drain-none (t .replay) out (t .filled) (drop (t .at) bytes))
-      ∙ ap (drained (t .replay) (record { bytes = out; filled = t .filled })) (sym (a .last m))
-      ∙ a .same
-
-pub ahead-first : (bytes out₀ : List ℕ) (t₀ : Turn) → Valid (t₀ .replay .device) → t₀ .at ≡ 0 → t₀ .filled ≤ length out₀
-    → t₀ .more ≡ true → Ahead bytes out₀ t₀ out₀ t₀
-ahead-first bytes out₀ t₀ v z f m =
+pub ahead-first : (bs out₀ : List ℕ) (s₀ : Stream) → Ready s₀ → Ahead bs out₀ s₀ out₀ (record { stream = s₀; at = 0; filled = 0 })
+unfolding drained
+ahead-first bs out₀ s₀ r =
     record {
-      valid = v;
-      within = omega (arith, z);
-      room = f;
+      ready = r;
+      within = omega arith;
+      room = omega arith;
       long = refl;
-      same = ap (λ i. drained (t₀ .replay) (record { bytes = out₀; filled = t₀ .filled }) (divide (drop i bytes))) z;
-      last = λ n. absurd (false≢true (sym n ∙ m));
+      same = ap (comes (unused out₀)) (come-all s₀ bs);
     }
+
+-- a line leaves the buffer as long as it was
+output-long : (o : Output) (p : Printed) → printedOf o p .filled ≤ length (o .bytes) → length (printedOf o p .bytes) ≡ length (o .bytes)
+output-long o Nothing h = refl
+output-long o (One l) h =
+    length-paste (o .bytes) (linePlace (length (o .bytes)) (o .filled)) (text l) (length (text l)) h (omega arith)
+
+module _ (bs out₀ : List ℕ) (s₀ : Stream) (out : List ℕ) (t : Turn) (a : Ahead bs out₀ s₀ out t) (h : t .at < length bs) where
+  abbrev f : Fed
+  f = fed (t .stream) bs (t .at)
+
+  abbrev o : Output
+  o = record { bytes = out; filled = t .filled }
+
+  turned-ahead : turned t f out .filled ≤ length out → Ahead bs out₀ s₀ (turnedOutput t f out) (turned t f out)
+  turned-ahead k =
+      let kept = output-long o (f .line) k in
+      record {
+        ready = stays-ready (t .stream) (a .ready) .0 bs (t .at);
+        within = step-reads-on (t .stream) bs (t .at) (a .ready) h .1;
+        room = omega (arith, kept, k);
+        long = kept ∙ a .long;
+        same = sym (comes-on o (f .line) (toCome (f .next) bs (f .at)))
+            ∙ ap (comes o) (sym (come-step (t .stream) bs (t .at) (a .ready) h))
+            ∙ a .same;
+      }
+
+  module _ {r : Turn} {out′ : List ℕ} (p : r ≡ turned t f out) (q : out′ ≡ turnedOutput t f out) (k : r .filled ≤ length out) where
+    pub ahead-again : Ahead bs out₀ s₀ out′ r
+    ahead-again =
+        let room : turned t f out .filled ≤ length out = subst (λ (x : Turn). x .filled ≤ length out) p k in
+        subst (λ (x : Turn). Ahead bs out₀ s₀ out′ x) (sym p)
+        (subst (λ (l : List ℕ). Ahead bs out₀ s₀ l (turned t f out)) (sym q) (turned-ahead room))
+
+    pub fewer-again : length bs - r .at < length bs - t .at
+    fewer-again =
+        let moved = step-reads-on (t .stream) bs (t .at) (a .ready) h in
+        omega (arith, h, ap (λ (x : Turn). x .at) p, moved .0)
+
+-- at the end of the part nothing is to come
+pub all-drained : (bs out₀ : List ℕ) (s₀ : Stream) (out : List ℕ) (t : Turn) → Ahead bs out₀ s₀ out t → length bs ≤ t .at
+    → state (t .stream) out (t .filled) ≡ drained s₀ (unused out₀) bs
+unfolding printedAll
+all-drained bs out₀ s₀ out t a h =
+    sym (ap (comes (record { bytes = out; filled = t .filled })) (come-end (t .stream) bs (t .at) (a .ready) h)) ∙ a .same
+
+-- the stream that a part leaves, and that it is ready
+pub drained-stream : (s₀ : Stream) (o : Output) (bs : List ℕ) {x : State} → x ≡ drained s₀ o bs → x .stream ≡ fedPart s₀ bs .next
+unfolding drained
+drained-stream s₀ o bs e = ap (λ (x : State). x .stream) e
+
+pub fed-ready : (s₀ : Stream) (bs : List ℕ) {s : Stream} → Ready s₀ → s ≡ fedPart s₀ bs .next → Ready s
+fed-ready s₀ bs r e = subst Ready (sym e) (part-ready s₀ bs r)
+
+-- nothing was read yet
+pub first-ready : {s : Stream} → s ≡ startStream → Ready s
+first-ready e = subst Ready (sym e) start-ready
+
+-- ---- the end
+
+pub finished-none : (s : Stream) (out : List ℕ) {e : Ended} → e ≡ ended s → e .line ≡ Nothing → out ≡ finished s (unused out) .bytes
+unfolding printedAll
+finished-none s out p q =
+    ap (λ (l : Printed). printedAll (unused out) (lineOf l) .bytes) (sym q ∙ ap (λ (x : Ended). x .line) p)
+
+pub finished-line : (s : Stream) (out : List ℕ) {e : Ended} {l : Line} {x : Output} → e ≡ ended s → e .line ≡ One l → x ≡ printed (unused out) l
+    → x .bytes ≡ finished s (unused out) .bytes
+unfolding printedAll
+finished-line s out {l = l} p q r =
+    ap (λ (y : Output). y .bytes) r
+    ∙ ap (λ (m : Printed). printedAll (unused out) (lineOf m) .bytes) (sym q ∙ ap (λ (y : Ended). y .line) p)

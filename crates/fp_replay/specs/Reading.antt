@@ -1,22 +1,19 @@
--- What the program makes of the bytes that it has read: the replay behind them, and the lines in its output buffer.
+-- What the program makes of the parts that it reads: the stream behind them, and the lines in its output buffer.
 -- Assumes nothing.
-use mathlib.Core.Bool.{true, false}
-use mathlib.Core.List.{List, [], _∷_, map}
-use Prim.Native.Nat.{ℕ, _+_, _-_, _≤_}
-use lib.Dec.{eqb, leb}
+use mathlib.Core.List.{List, [], _∷_}
+use Prim.Native.Nat.{ℕ, _+_}
+use lib.Dec.{leb}
 use lib.ListN.{length}
 use lib.Seq.{paste}
 use Rattle.laws.specs.Choice.{if_then_else_}
-use Rattle.provider.specs.Demands.Validity.{Valid}
-use Rattle.provider.specs.Rules.Event.{Event, Overflow}
-use Rattle.recording.specs.Reading.{Division, eventIn, part}
-use Rattle.recording.specs.declared.reader.Next.{Next}
-use Rattle.recording.specs.declared.reader.Next.the-variants.{Record, Cut, End}
-use Rattle.replay.specs.Replay.{shown, linesFrom, afterEvents}
+use Rattle.replay.specs.Parts.{ended}
+use Rattle.replay.specs.Promises.{fedPart, lineOf}
 use Rattle.replay.specs.declared.Line.{Line}
-use Rattle.replay.specs.declared.Replay.{Replay}
-use Rattle.fp_replay.specs.Text.{text}
-use Rattle.fp_replay.specs.declared.input.Run.{Run}
+use Rattle.replay.specs.declared.parts.Fed.{Fed}
+use Rattle.replay.specs.declared.parts.Printed.{Printed}
+use Rattle.replay.specs.declared.parts.Printed.the-variants.{Nothing, One}
+use Rattle.replay.specs.declared.parts.Stream.{Stream}
+use Rattle.replay_text.specs.Text.{text}
 use Rattle.fp_replay.specs.declared.part.Turn.{Turn}
 
 -- ---- the output buffer: its bytes, of which the first are lines that were not written yet
@@ -24,6 +21,10 @@ use Rattle.fp_replay.specs.declared.part.Turn.{Turn}
 pub record Output : Type 0 where
   pub bytes : List ℕ
   pub filled : ℕ
+
+-- all lines were written
+abbrev pub unused : List ℕ → Output
+unused bytes = record { bytes = bytes; filled = 0 }
 
 -- where a line goes: behind the others, or to the front, after what the buffer held was written; no line has more than 83 bytes
 abbrev pub linePlace : ℕ → ℕ → ℕ
@@ -42,69 +43,32 @@ printedAll o (l ∷ ls) = printedAll (printed o l) ls
 
 -- ---- a part of a recording
 
-abbrev pub wholeEvents : Division → List Event
-wholeEvents d = map eventIn (d .whole)
-
--- a replay, its output, and the bytes that are still to come
+-- a stream, and its output
 pub record State : Type 0 where
-  pub replay : Replay
+  pub stream : Stream
   pub output : Output
-  pub rest : List ℕ
 
-abbrev pub state : Replay → List ℕ → ℕ → List ℕ → State
-state r bytes filled rest = record { replay = r; output = record { bytes = bytes; filled = filled }; rest = rest }
+abbrev pub state : Stream → List ℕ → ℕ → State
+state s bytes filled = record { stream = s; output = record { bytes = bytes; filled = filled } }
 
--- the state behind the whole records of a part
-unfoldable pub drained : Replay → Output → Division → State
-drained r o d =
-    record {
-      replay = afterEvents r (wholeEvents d);
-      output = printedAll o (linesFrom r (wholeEvents d));
-      rest = d .rest;
-    }
+-- "prints one line for each event": the lines that a part gives
+unfoldable pub drained : Stream → Output → List ℕ → State
+drained s o part = record { stream = fedPart s part .next; output = printedAll o (fedPart s part .lines) }
 
--- ---- one record of it
+-- one step of it
+abbrev pub printedOf : Output → Printed → Output
+printedOf o Nothing = o
+printedOf o (One l) = printed o l
 
-abbrev pub shownOutput : Turn → Event → List ℕ → List ℕ
-shownOutput t e out = printed (record { bytes = out; filled = t .filled }) (shown (t .replay) e .line) .bytes
+abbrev pub outputOf : Turn → Fed → List ℕ → Output
+outputOf t f out = printedOf (record { bytes = out; filled = t .filled }) (f .line)
 
-abbrev pub shownTurn : Turn → Event → ℕ → List ℕ → Turn
-shownTurn t e end out =
-    record {
-      replay = shown (t .replay) e .next;
-      at = end;
-      filled = printed (record { bytes = out; filled = t .filled }) (shown (t .replay) e .line) .filled;
-      more = true;
-    }
+abbrev pub turned : Turn → Fed → List ℕ → Turn
+turned t f out = record { stream = f .next; at = f .at; filled = outputOf t f out .filled }
 
-abbrev pub stopped : Turn → Turn
-stopped t = record { replay = t .replay; at = t .at; filled = t .filled; more = false }
+abbrev pub turnedOutput : Turn → Fed → List ℕ → List ℕ
+turnedOutput t f out = outputOf t f out .bytes
 
-abbrev pub turned : Turn → List ℕ → List ℕ → Next → Turn
-turned t bytes out (Record start end) = shownTurn t (eventIn (part start (end - start) bytes)) end out
-turned t bytes out Cut = stopped t
-turned t bytes out End = stopped t
-
-abbrev pub turnedOutput : Turn → List ℕ → List ℕ → Next → List ℕ
-turnedOutput t bytes out (Record start end) = shownOutput t (eventIn (part start (end - start) bytes)) out
-turnedOutput t bytes out Cut = out
-turnedOutput t bytes out End = out
-
--- ---- between two reads
-
--- the bytes that wait for more, at the front of the input buffer
-abbrev pub carried : List ℕ → List ℕ → List ℕ
-carried rest input = paste input 0 rest (length rest)
-
--- what holds of a run: all that it holds stands in the buffers
-pub record Ready (run : Run) (input out : List ℕ) : Type 0 where
-  pub valid : Valid (run .replay .device)
-  pub held : run .held ≤ length input
-  pub room : 83 ≤ length out
-  pub filled : run .filled ≤ length out
-
--- "A cut last record ends the replay as a marker too."
-abbrev pub finished : Run → List ℕ → Output
-finished run out =
-    if eqb (run .held) 0 then record { bytes = out; filled = run .filled } else
-    printed (record { bytes = out; filled = run .filled }) (shown (run .replay) Overflow .line)
+-- the end of the recording
+abbrev pub finished : Stream → Output → Output
+finished s o = printedAll o (lineOf (ended s .line))

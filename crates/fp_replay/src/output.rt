@@ -1,5 +1,4 @@
 // Standard output through a buffer: one system call for many lines.
-use crate::text;
 use libc::STDOUT_FILENO;
 use replay::Line;
 ghost use mathlib.Core.Path.{_≡_};
@@ -14,7 +13,7 @@ pub fn print(out: &mut [u8], filled: usize, line: Line) -> usize
     ensures { λ r. ⌜ r ≤ length (now (out .entry)) ⌝ }
 {
     let at = place(out, filled);
-    text::put_line(out, at, line)
+    replay_text::put_line(out, at, line)
 }
 
 // Where a line goes.
@@ -22,7 +21,7 @@ fn place(out: &[u8], filled: usize) -> usize
     requires { ⌜ (83 ≤ length (now out)) × (filled ≤ length (now out)) ⌝ }
     ensures { λ r. ⌜ r ≡ spec.linePlace (length (now (out .entry))) filled ⌝ }
 {
-    if out.len() - filled < text::LINE_MAX {
+    if out.len() - filled < replay_text::LINE_MAX {
         flush(out, filled);
         return 0;
     }

@@ -118,7 +118,7 @@ fn pack_keys(keys: AccountKeys) -> FpStored
     }
 }
 
-fn flag(on: bool) -> u8
+pub fn flag(on: bool) -> u8
     ensures { λ r. ⌜ r ≡ spec.flag on ⌝ }
 {
     if on {

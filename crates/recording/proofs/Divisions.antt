@@ -8,7 +8,7 @@ use native.Mathlib.Nat.{not-suc-le-zero}
 use native.Mathlib.Omega.{arith}
 use lib.Dec.{ltb}
 use lib.ListN.{length, take, drop, length-append, length-drop, take-append-drop}
-use lib.Seq.{take-append-le, drop-append-le, length-take-le, take-at, drop-at}
+use lib.Seq.{take-append-le, drop-append-le, drop-drop, length-take-le, take-at, drop-at}
 use borrow.Author.Tests.{ltb-true, ltb-false, le-ltb, lt-ltb}
 use Rattle.laws.specs.BigEndian.{bytes, number2}
 use Rattle.laws.specs.Choice.{if_then_else_}
@@ -18,7 +18,7 @@ use Rattle.provider.specs.Rules.Event.{Event}
 use Rattle.recording.proofs.OneRecord.{record-reads}
 use Rattle.recording.specs.Layout.{body, framed}
 use Rattle.recording.specs.Promises.{IsByte, Recorded, kept, joined, recordsOf, ReadToEnd, RestShort, ReadOn, RecordsRead}
-use Rattle.recording.specs.Reading.{Division, noRecord, after, divideWithin, divide, eventIn, eventsOf, events, cutEvents}
+use Rattle.recording.specs.Reading.{Division, noRecord, after, divideWithin, divide, eventIn, eventsOf, events, cutEvents, part, sizeIn}
 
 -- fuel of the recording's length and more is enough
 enough : (f g : ℕ) (bs : List ℕ) → length bs ≤ f → length bs ≤ g → divideWithin f bs ≡ divideWithin g bs
@@ -120,48 +120,89 @@ short (suc f) (a ∷ b ∷ bs) h (p, (q, all)) =
 pub rest-short : RestShort
 rest-short bs all = short (length bs) bs (omega arith) all
 
--- ---- record by record
+-- ---- by the length field in front
 
-not-empty : {a : ℕ} {bs : List ℕ} → a ∷ bs ≡ [] → ⊥
-not-empty e = lengths (ap (λ (l : List ℕ). length l) e)
+-- the record in front is whole
+pub ended-first : (l : List ℕ) → 2 + sizeIn l ≤ length l
+    → divide l ≡ after (part 2 (sizeIn l) l) (divide (drop (2 + sizeIn l) l))
+ended-first [] h = absurd (not-suc-le-zero h)
+ended-first (a ∷ []) h = absurd (too-short (number2 a 0) h)
   where
-    lengths : {n : ℕ} → suc n ≡ 0 → ⊥
-    lengths e = omega (arith, e)
+    too-short : (n : ℕ) → 2 + n ≤ 1 → ⊥
+    too-short n h = omega (arith, h)
+ended-first (a ∷ b ∷ bs) h =
+    let n = number2 a b in
+    whole-first a b bs (omega (arith, h)) ∙ ap (λ (l : List ℕ). after (take n bs) (divide l)) (drop-drop n 2 (a ∷ b ∷ bs))
 
-abbrev together : Division → Division → Division
+-- it is cut, or nothing stands there
+pub open-first : (l : List ℕ) → length l < 2 + sizeIn l → divide l ≡ noRecord l
+unfolding divideWithin
+open-first [] h = refl
+open-first (a ∷ []) h = refl
+open-first (a ∷ b ∷ bs) h = cut-first a b bs (omega (arith, h))
+
+-- ---- more behind a recording
+
+abbrev pub together : Division → Division → Division
 together c d = record { whole = c .whole ++ d .whole; rest = d .rest }
 
 -- a whole record in front of both
 first-on : (a b : ℕ) (bs more : List ℕ) → number2 a b ≤ length bs
-    → divide (drop (number2 a b) bs ++ more) ≡ together (divide (drop (number2 a b) bs)) (divide more)
-    → divide (a ∷ b ∷ (bs ++ more)) ≡ together (divide (a ∷ b ∷ bs)) (divide more)
+    → divide (drop (number2 a b) bs ++ more)
+    ≡ together (divide (drop (number2 a b) bs)) (divide (divide (drop (number2 a b) bs) .rest ++ more))
+    → divide (a ∷ b ∷ (bs ++ more)) ≡ together (divide (a ∷ b ∷ bs)) (divide (divide (a ∷ b ∷ bs) .rest ++ more))
 first-on a b bs more h rest =
     let n = number2 a b in
     whole-first a b (bs ++ more) (rw (length-append bs more) (omega (arith, h)))
     ∙ (λ i. after (take-append-le n bs more h i) (divide (drop-append-le n bs more h i)))
     ∙ ap (after (take n bs)) rest
-    ∙ ap (λ (c : Division). together c (divide more)) (sym (whole-first a b bs h))
+    ∙ ap (λ (c : Division). together c (divide (c .rest ++ more))) (sym (whole-first a b bs h))
 
-on : (f : ℕ) (bs more : List ℕ) → length bs ≤ f → divide bs .rest ≡ [] → divide (bs ++ more) ≡ together (divide bs) (divide more)
+on : (f : ℕ) (bs more : List ℕ) → length bs ≤ f → divide (bs ++ more) ≡ together (divide bs) (divide (divide bs .rest ++ more))
 unfolding divideWithin
-on zero [] more h e = refl
-on zero (a ∷ bs) more h e = absurd (not-suc-le-zero h)
-on (suc f) [] more h e = refl
-on (suc f) (a ∷ []) more h e = absurd (not-empty e)
-on (suc f) (a ∷ b ∷ bs) more h e =
+on zero [] more h = refl
+on zero (a ∷ bs) more h = absurd (not-suc-le-zero h)
+on (suc f) [] more h = refl
+on (suc f) (a ∷ []) more h = refl
+on (suc f) (a ∷ b ∷ bs) more h =
     let n = number2 a b in
-    by-test a b bs more e (ltb (length bs) n) refl (λ r. on f (drop n bs) more (rw (length-drop n bs) (omega (arith, h))) r)
+    by-test a b bs more (ltb (length bs) n) refl (on f (drop n bs) more (rw (length-drop n bs) (omega (arith, h))))
   where
-    by-test : (a b : ℕ) (bs more : List ℕ) → divide (a ∷ b ∷ bs) .rest ≡ [] → (t : Bool) → ltb (length bs) (number2 a b) ≡ t
-        → (divide (drop (number2 a b) bs) .rest ≡ []
-        → divide (drop (number2 a b) bs ++ more) ≡ together (divide (drop (number2 a b) bs)) (divide more))
-        → divide (a ∷ b ∷ (bs ++ more)) ≡ together (divide (a ∷ b ∷ bs)) (divide more)
-    by-test a b bs more e true t rest =
-        let cut = cut-first a b bs (ltb-true (length bs) (number2 a b) t) in
-        absurd (not-empty (ap (λ (c : Division). c .rest) (sym cut) ∙ e))
-    by-test a b bs more e false t rest =
-        let h = ltb-false (length bs) (number2 a b) t in
-        first-on a b bs more h (rest (ap (λ (c : Division). c .rest) (sym (whole-first a b bs h)) ∙ e))
+    by-test : (a b : ℕ) (bs more : List ℕ) (t : Bool) → ltb (length bs) (number2 a b) ≡ t
+        → divide (drop (number2 a b) bs ++ more)
+        ≡ together (divide (drop (number2 a b) bs)) (divide (divide (drop (number2 a b) bs) .rest ++ more))
+        → divide (a ∷ b ∷ (bs ++ more)) ≡ together (divide (a ∷ b ∷ bs)) (divide (divide (a ∷ b ∷ bs) .rest ++ more))
+    by-test a b bs more true t rest =
+        ap (λ (c : Division). together c (divide (c .rest ++ more))) (sym (cut-first a b bs (ltb-true (length bs) (number2 a b) t)))
+    by-test a b bs more false t rest = first-on a b bs more (ltb-false (length bs) (number2 a b) t) rest
+
+-- what is left of a recording is read on with what comes behind it
+pub divide-on : (bs more : List ℕ) → divide (bs ++ more) ≡ together (divide bs) (divide (divide bs .rest ++ more))
+divide-on bs more = on (length bs) bs more (omega arith)
+
+-- what is left has no whole record
+pub rest-open : (bs : List ℕ) → length (divide bs .rest) < 2 + sizeIn (divide bs .rest)
+unfolding divideWithin
+rest-open bs = by-fuel (length bs) bs (omega arith)
+  where
+    by-test : (a b : ℕ) (bs : List ℕ) (t : Bool) → ltb (length bs) (number2 a b) ≡ t
+        → length (divide (drop (number2 a b) bs) .rest) < 2 + sizeIn (divide (drop (number2 a b) bs) .rest)
+        → length (divide (a ∷ b ∷ bs) .rest) < 2 + sizeIn (divide (a ∷ b ∷ bs) .rest)
+    by-test a b bs true t rest =
+        let h = ltb-true (length bs) (number2 a b) t in
+        subst (λ (c : Division). length (c .rest) < 2 + sizeIn (c .rest)) (sym (cut-first a b bs h)) (omega (arith, h))
+    by-test a b bs false t rest =
+        subst (λ (c : Division). length (c .rest) < 2 + sizeIn (c .rest))
+        (sym (whole-first a b bs (ltb-false (length bs) (number2 a b) t))) rest
+
+    by-fuel : (f : ℕ) (bs : List ℕ) → length bs ≤ f → length (divide bs .rest) < 2 + sizeIn (divide bs .rest)
+    by-fuel zero [] h = omega arith
+    by-fuel zero (a ∷ bs) h = absurd (not-suc-le-zero h)
+    by-fuel (suc f) [] h = omega arith
+    by-fuel (suc f) (a ∷ []) h = omega arith
+    by-fuel (suc f) (a ∷ b ∷ bs) h =
+        let n = number2 a b in
+        by-test a b bs (ltb (length bs) n) refl (by-fuel f (drop n bs) (rw (length-drop n bs) (omega (arith, h))))
 
 -- the events of what was put together
 events-together : (c d : Division) → c .rest ≡ [] → eventsOf (together c d) ≡ eventsOf c ++ eventsOf d
@@ -172,7 +213,8 @@ events-together c d e =
 
 pub read-on : ReadOn
 read-on before more e =
-    ap eventsOf (on (length before) before more (omega arith) e) ∙ events-together (divide before) (divide more) e
+    let rest : divide (divide before .rest ++ more) ≡ divide more = ap (λ (l : List ℕ). divide (l ++ more)) e in
+    ap eventsOf (divide-on before more ∙ ap (together (divide before)) rest) ∙ events-together (divide before) (divide more) e
 
 -- ---- what the writer took
 

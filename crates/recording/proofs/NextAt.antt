@@ -20,25 +20,18 @@ module _ (l : List ℕ) (at : ℕ) where
   unfolding nextAt
   next-cut-length h k = rw (lt-leb (length l) at h, lt-ltb (length l) (at + 2) k)
 
-  module _ {high low : ℕ} (p : high ≡ getD l at 0) (q : low ≡ getD l (at + 1) 0) where
-    pub next-cut : at + 2 ≤ length l → length l < at + 2 + number2 high low → nextAt l at ≡ Cut
+  module _ {n : ℕ} (p : n ≡ number2 (getD l at 0) (getD l (at + 1) 0)) where
+    pub next-cut : at + 2 ≤ length l → length l < at + 2 + n → nextAt l at ≡ Cut
     unfolding nextAt
     next-cut h k =
-        rw (
-          lt-leb (length l) at (omega arith),
-          le-ltb (length l) (at + 2) h,
-          ← p,
-          ← q,
-          lt-ltb (length l) (at + 2 + number2 high low) k,
-        )
+        rw (lt-leb (length l) at (omega arith), le-ltb (length l) (at + 2) h, ← p, lt-ltb (length l) (at + 2 + n) k)
 
-    pub next-record : at + 2 + number2 high low ≤ length l → nextAt l at ≡ Record (at + 2) (at + 2 + number2 high low)
+    pub next-record : at + 2 + n ≤ length l → nextAt l at ≡ Record (at + 2) (at + 2 + n)
     unfolding nextAt
     next-record h =
         rw (
           lt-leb (length l) at (omega arith),
           le-ltb (length l) (at + 2) (omega arith),
           ← p,
-          ← q,
-          le-ltb (length l) (at + 2 + number2 high low) h,
+          le-ltb (length l) (at + 2 + n) h,
         )

@@ -24,8 +24,8 @@ module _ (bs : List ℕ) (at : ℕ) where
   abbrev pub Walk : Next → Type 0
   Walk (Record s e) =
       (s ≡ at + 2) × (s ≤ e) × (e ≤ length bs) × (divide (drop at bs) ≡ after (part s (e - s) bs) (divide (drop e bs)))
-  Walk Cut = divide (drop at bs) ≡ noRecord (drop at bs)
-  Walk End = divide (drop at bs) ≡ noRecord (drop at bs)
+  Walk Cut = (at < length bs) × (divide (drop at bs) ≡ noRecord (drop at bs))
+  Walk End = (length bs ≤ at) × (divide (drop at bs) ≡ noRecord (drop at bs))
 
   two-bytes : at + 2 ≤ length bs → drop at bs ≡ getD bs at 0 ∷ getD bs (at + 1) 0 ∷ drop (at + 2) bs
   two-bytes h =
@@ -50,10 +50,12 @@ module _ (bs : List ℕ) (at : ℕ) where
 
   cut-here : at + 2 ≤ length bs → length bs < at + 2 + size → Walk Cut
   cut-here h k =
-      let short : length (drop (at + 2) bs) < size = rw (length-drop (at + 2) bs) (omega (arith, h, k)) in
-      ap divide (two-bytes h)
-      ∙ cut-first (getD bs at 0) (getD bs (at + 1) 0) (drop (at + 2) bs) short
-      ∙ ap noRecord (sym (two-bytes h))
+      let short : length (drop (at + 2) bs) < size = rw (length-drop (at + 2) bs) (omega (arith, h, k)) in (
+        omega (arith, h),
+        ap divide (two-bytes h)
+            ∙ cut-first (getD bs at 0) (getD bs (at + 1) 0) (drop (at + 2) bs) short
+            ∙ ap noRecord (sym (two-bytes h)),
+      )
 
   -- one byte of a length field
   one-byte : at < length bs → length bs < at + 2 → Walk Cut
@@ -62,13 +64,13 @@ module _ (bs : List ℕ) (at : ℕ) where
       let alone : drop at bs ≡ getD bs at 0 ∷ [] =
       drop-cons bs at 0 h ∙ ap (λ (l : List ℕ). getD bs at 0 ∷ l) (drop-of-length-le bs {i = suc at} (omega (arith, k)))
       in
-      ap divide alone ∙ ap noRecord (sym alone)
+      (h, ap divide alone ∙ ap noRecord (sym alone))
 
   at-end : length bs ≤ at → Walk End
   unfolding divideWithin
   at-end h =
       let none : drop at bs ≡ [] = drop-of-length-le bs {i = at} h in
-      ap divide none ∙ ap noRecord (sym none)
+      (h, ap divide none ∙ ap noRecord (sym none))
 
   pub walk : Walk (nextAt bs at)
   unfolding nextAt

@@ -173,6 +173,10 @@ noRecord bs = record { whole = []; rest = bs }
 abbrev pub after : List ℕ → Division → Division
 after r d = record { whole = r ∷ d .whole; rest = d .rest }
 
+-- how many bytes of the record in front follow its length field; a byte that is not there counts as 0
+abbrev pub sizeIn : List ℕ → ℕ
+sizeIn bs = number2 (getD bs 0 0) (getD bs 1 0)
+
 -- "moves by whole records"; every record takes two bytes and more, so that `fuel` of the recording's length is enough
 unfoldable pub divideWithin : ℕ → List ℕ → Division
 divideWithin zero bs = noRecord bs

@@ -1,7 +1,8 @@
 // A reader stands in a lent recording and moves by whole records. The work is done by functions on a slice and a place, which any
 // caller may use; the struct is above them.
 ghost use mathlib.Core.Path.{_≡_};
-ghost use Prim.Native.Nat.{_<_};
+ghost use Prim.Native.Nat.{_<_, _^_};
+ghost use Rattle.laws.specs.BigEndian.{number2};
 ghost use Rattle.recording.specs.Reading as reading;
 
 // What stands at a place of a recording.
@@ -23,11 +24,18 @@ pub fn next_at(recording: &[u8], at: usize) -> Next
     if left < 2 {
         return Next::Cut;
     }
-    let length = wide(recording[at]) * 0x100 + wide(recording[at + 1]);
+    let length = size(recording[at], recording[at + 1]);
     if left - 2 < length {
         return Next::Cut;
     }
     Next::Record(at + 2, at + 2 + length)
+}
+
+// What a length field says: how many bytes of the record follow it.
+pub fn size(high: u8, low: u8) -> usize
+    ensures { λ r. ⌜ (r ≡ number2 high low) × (r < 2 ^ 16) ⌝ }
+{
+    wide(high) * 0x100 + wide(low)
 }
 
 fn wide(byte: u8) -> usize

@@ -1,3 +1,4 @@
 pub mod Answers
 pub mod Kept
+pub mod Parts
 pub mod Valid

@@ -1,2 +1,3 @@
+pub mod Parts
 pub mod Promises
 pub mod Replay

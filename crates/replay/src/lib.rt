@@ -1,5 +1,7 @@
 // Document 02, request (iii): the replay of a recording. An event of the recording goes to the device, and a line says what became
 // of it.
+pub mod parts;
+
 use basics::Answer;
 use provider::Device;
 use provider::Outcome;

@@ -1,4 +1,4 @@
--- A file that can't be opened leaves the run as it was; any other is read to its end.
+-- A file that can't be opened leaves the stream as it was; any other is read to its end.
 use borrow.Author.Needs.{needs}
 use Rattle.fp_replay.proofs.files.one_file.Statement.{statement}
 use Rattle.fp_replay.proofs.files.one_file.Tie as tie
@@ -6,12 +6,12 @@ use Rattle.fp_replay.proofs.files.one_file.Tie as tie
 returns : tie.Need-returns
 returns c =
     let start = c .before .before .before .before .before .before .before .before .before .before in
-    rw (c .ended .ensures) (start .pre)
+    rw (c .ended .ensures) (start .pre .0)
 
 returns-2 : tie.Need-returns-2
 returns-2 c =
     let start = c .before .before .before .before .before .before .before .before .before .before .before .before .before in
-    rw (c .ended2 .ensures) (start .pre)
+    rw (c .ended2 .ensures) (start .pre .0)
 
 pub one-file-spec : {M : Type 1} → statement M
 one-file-spec =

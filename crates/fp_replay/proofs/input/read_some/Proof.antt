@@ -1,24 +1,15 @@
--- A read changes bytes of the input buffer and not its length; what came is taken in.
-use mathlib.Core.Path.{_≡_, refl}
-use lib.ListN.{length}
+-- Nothing changes the stream but a part that came.
 use borrow.Author.Needs.{needs}
-use Rattle.fp_replay.proofs.Carried.{ready-kept}
 use Rattle.fp_replay.proofs.input.read_some.Statement.{statement}
 use Rattle.fp_replay.proofs.input.read_some.Tie as tie
 
-returns : tie.Need-returns
-returns c =
-    let at-read = c .before .before .before .before in
-    let start = at-read .before .before .before .before .before in
-    let long : length (at-read .read-behind .last .1 .0) ≡ length (start .args .input .now) = search needs in
-    rw (c .ended .ensures) (ready-kept (start .pre) long refl)
+returns-2 : tie.Need-returns-2
+returns-2 c =
+    let start = c .before .before .before .before .before .before .before .before .before .before in
+    rw (c .ended .ensures) (start .pre .0)
 
-take-in-requires : tie.Need-take-in-requires
-take-in-requires c κs =
-    let at-read = c .before .before .before .before .before .before .before .before in
-    let start = at-read .before .before .before .before .before in
-    let long : length (at-read .read-behind .last .1 .0) ≡ length (start .args .input .now) = search needs in
-    (ready-kept (start .pre) long refl, search needs)
+returns-3 : tie.Need-returns-3
+returns-3 c = c .before .before .take-in .ensures .1 .1
 
 pub read-some-spec : {M : Type 1} → statement M
 read-some-spec =
@@ -27,13 +18,14 @@ read-some-spec =
     (λ c κs. search needs)
     (λ c κs. search needs)
     (λ c. search needs)
-    returns
     (λ c. search needs)
+    (λ c κs. search needs)
+    (λ c. search needs)
+    returns-2
+    (λ c κs. search needs)
     (λ c. search needs)
     (λ c. search needs)
     (λ c κs. search needs)
     (λ c. search needs)
-    take-in-requires
     (λ c. search needs)
-    (λ c. search needs)
-    (λ c. search needs))
+    returns-3)

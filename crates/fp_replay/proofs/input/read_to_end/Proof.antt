@@ -1,38 +1,38 @@
--- Every read leaves a run that is ready for the next. The measure is the number of turns that are left.
+-- Every read leaves a stream that is ready for the next. The measure is the number of turns that are left.
 use mathlib.Core.Path.{_≡_, refl, _∙_}
 use native.Mathlib.Omega.{arith}
 use lib.ListN.{length}
 use borrow.Author.Needs.{needs}
+use Rattle.replay.specs.Parts.{Ready}
 use Rattle.fp_replay.proofs.input.read_to_end.Statement.{statement}
 use Rattle.fp_replay.proofs.input.read_to_end.Tie as tie
-use Rattle.fp_replay.specs.Reading.{Ready}
 
 abbrev Inv-loop : tie.InvT-loop
-Inv-loop fd name input₀ out₀ turns₀ fed₀ input out turns fed =
-    Ready (fed .run) input out × (length input ≡ length input₀) × (length out ≡ length out₀)
+Inv-loop fd name input₀ out₀ turns₀ got₀ input out turns got =
+    Ready (got .stream) × (length input ≡ length input₀) × (length out ≡ length out₀)
 
 abbrev μ-loop : tie.MeasureT-loop
-μ-loop fd name input₀ out₀ turns₀ fed₀ input out turns fed = turns
+μ-loop fd name input₀ out₀ turns₀ got₀ input out turns got = turns
 
 loop-holds : tie.Need-loop-holds Inv-loop μ-loop
-loop-holds c = (c .before .before .before .pre, refl, refl)
+loop-holds c =
+    let start = c .before .before .before in
+    (start .pre .0, refl, refl)
 
 read-some-requires : tie.Need-read-some-requires Inv-loop μ-loop
-read-some-requires c κs = c .before .before .before .before .before .loop .inv .0
-
-sub-turns : tie.Need-sub-turns Inv-loop μ-loop
-sub-turns c = omega arith
-
-loop-less : tie.Need-loop-less Inv-loop μ-loop
-loop-less c = omega arith
+read-some-requires c κs =
+    let turn = c .before .before .before .before .before in
+    let start = turn .before .before .before .before in
+    (turn .loop .inv .0, omega (arith, turn .loop .inv .2, start .pre .1))
 
 loop-again : tie.Need-loop-again Inv-loop μ-loop
 loop-again c =
-    let at-read = c .before .before .before .before in
-    let turn = at-read .before .before .before .before .before .before .loop in
-    let input : length (at-read .read-some .last .1 .1 .1 .0) ≡ length (turn .input) = search needs in
-    let out : length (at-read .read-some .last .1 .1 .1 .1 .0) ≡ length (turn .out) = search needs in
-    (at-read .read-some .ensures, input ∙ turn .inv .1, out ∙ turn .inv .2)
+    let at-read-some = c .before .before .before .before in
+    let turn = at-read-some .before .before .before .before .before .before in
+    let turn = turn .loop in
+    let input : length (at-read-some .read-some .last .1 .1 .1 .0) ≡ length (turn .input) = search needs in
+    let out : length (at-read-some .read-some .last .1 .1 .1 .1 .0) ≡ length (turn .out) = search needs in
+    (at-read-some .read-some .ensures, input ∙ turn .inv .1, out ∙ turn .inv .2)
 
 same-length : tie.Need-same-length Inv-loop μ-loop
 same-length c = c .before .before .loop .inv .1
@@ -60,8 +60,8 @@ read-to-end-spec =
     μ-loop
     loop-holds
     read-some-requires
-    sub-turns
-    loop-less
+    (λ c. omega arith)
+    (λ c. omega arith)
     loop-again
     same-length
     same-length-2

@@ -1,50 +1,51 @@
--- At each turn, what is drained from there on is what was to be drained at the start; the last turn finds no whole record.
-use mathlib.Core.Path.{refl}
+-- At each turn, what is to come is what was to come at the start; the last turn stands at the end of the part.
 use native.Mathlib.Omega.{arith}
-use Rattle.fp_replay.proofs.Turns.{Ahead, toCome, ahead-first, ahead-again, fewer-again, all-drained}
+use Prim.Native.Nat.{_-_}
+use lib.ListN.{length}
+use Rattle.fp_replay.proofs.Turns.{Ahead, ahead-first, ahead-again, fewer-again, all-drained}
 use Rattle.fp_replay.proofs.part.drain.Statement.{statement}
 use Rattle.fp_replay.proofs.part.drain.Tie as tie
 
 abbrev Inv-loop : tie.InvT-loop
-Inv-loop part out₀ filled turn₀ out turn = Ahead part out₀ turn₀ out turn
+Inv-loop part out₀ turn₀ out turn = Ahead part out₀ (turn₀ .stream) out turn
 
 abbrev μ-loop : tie.MeasureT-loop
-μ-loop part out₀ filled turn₀ out turn = toCome part turn
+μ-loop part out₀ turn₀ out turn = length part - turn .at
 
 loop-holds : tie.Need-loop-holds Inv-loop μ-loop
 loop-holds c =
     let start = c .before .before in
-    ahead-first _ _ _ (start .pre .0) refl (start .pre .2) refl
+    ahead-first (start .args .part .now) (start .args .out .now) (start .args .stream) (start .pre .0)
 
 one-requires : tie.Need-one-requires Inv-loop μ-loop
 one-requires c κs =
-    let at-loop = c .before .before in
-    let start = at-loop .before .before .before in
-    let ahead = at-loop .loop .inv in
-    ((ahead .valid, omega (arith, ahead .long, start .pre .1), ahead .room), ahead .within)
+    let turn = c .before .before .before in
+    let start = turn .before .before .before in
+    let ahead = turn .loop .inv in (ahead .ready, omega (arith, ahead .long, start .pre .1), ahead .room)
 
 loop-less : tie.Need-loop-less Inv-loop μ-loop
 loop-less c =
     let at-one = c .before .before in
-    let at-test = at-one .before .before in
-    let ahead = at-test .before .loop .inv in
-    fewer-again _ _ _ _ _ ahead (at-one .one .ensures .0) (at-one .one .ensures .1 .0) (at-one .one .ensures .1 .1) (at-test .loop-test .taken)
+    let at-if1 = at-one .before .before in
+    let turn = at-if1 .before .before in
+    let ahead = turn .loop .inv in
+    fewer-again _ _ _ _ _ ahead (at-if1 .if1 .taken) (at-one .one .ensures .0) (at-one .one .ensures .1 .0) (at-one .one .ensures .1 .1)
 
 loop-again : tie.Need-loop-again Inv-loop μ-loop
 loop-again c =
     let at-one = c .before .before in
-    let at-test = at-one .before .before in
-    let ahead = at-test .before .loop .inv in
-    ahead-again _ _ _ _ _ ahead (at-one .one .ensures .0) (at-one .one .ensures .1 .0) (at-one .one .ensures .1 .1)
+    let at-if1 = at-one .before .before in
+    let turn = at-if1 .before .before in
+    let ahead = turn .loop .inv in
+    ahead-again _ _ _ _ _ ahead (at-if1 .if1 .taken) (at-one .one .ensures .0) (at-one .one .ensures .1 .0) (at-one .one .ensures .1 .1)
 
 same-length : tie.Need-same-length Inv-loop μ-loop
-same-length c =
-    c .before .loop .inv .long
+same-length c = c .before .before .loop .inv .long
 
 returns : tie.Need-returns Inv-loop μ-loop
 returns c =
-    let ahead = c .before .loop .inv in
-    (all-drained _ _ _ _ _ ahead (c .loop-test .left), (ahead .valid, ahead .within, omega (arith, ahead .room, ahead .long)))
+    let ahead = c .before .before .loop .inv in
+    (all-drained _ _ _ _ _ ahead (c .if1 .left), omega (arith, ahead .room, ahead .long))
 
 pub drain-spec : {M : Type 1} → statement M
 drain-spec =

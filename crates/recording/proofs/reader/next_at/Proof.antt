@@ -12,24 +12,22 @@ returns c =
 
 returns-2 : tie.Need-returns-2
 returns-2 c =
-    let a = c .before .before .before .args in
-    sym (next-cut-length (a .recording .now) (a .at) (c .before .if1 .left) (omega arith))
+    let at-if1 = c .before in
+    let start = at-if1 .before .before in
+    let a = start .args in
+    sym (next-cut-length (a .recording .now) (a .at) (at-if1 .if1 .left) (omega arith))
 
 returns-3 : tie.Need-returns-3
 returns-3 c =
-    let at-low = c .before in
-    let at-high = at-low .before .before in
-    let a = at-high .before .before .before .before .before .args in
-    sym
-    (next-cut (a .recording .now) (a .at) (at-high .wide .ensures .0) (at-low .wide2 .ensures .0) (omega arith)
-    (omega arith))
+    let at-size = c .before in
+    let start = at-size .before .before .before .before .before .before in
+    let a = start .args in sym (next-cut (a .recording .now) (a .at) (at-size .size .ensures .0) (omega arith) (omega arith))
 
 returns-4 : tie.Need-returns-4
 returns-4 c =
-    let at-low = c .before in
-    let at-high = at-low .before .before in
-    let a = at-high .before .before .before .before .before .args in
-    sym (next-record (a .recording .now) (a .at) (at-high .wide .ensures .0) (at-low .wide2 .ensures .0) (omega arith))
+    let at-size = c .before in
+    let start = at-size .before .before .before .before .before .before in
+    let a = start .args in sym (next-record (a .recording .now) (a .at) (at-size .size .ensures .0) (omega arith))
 
 pub next-at-spec : {M : Type 1} → statement M
 next-at-spec =
@@ -39,12 +37,9 @@ next-at-spec =
     (λ c. search needs)
     returns-2
     (λ c. search needs)
-    (λ c κs. search needs)
-    (λ c. search needs)
     (λ c. search needs)
     (λ c. search needs)
     (λ c κs. search needs)
-    (λ c. search needs)
     returns-3
     (λ c. search needs)
     (λ c. search needs)

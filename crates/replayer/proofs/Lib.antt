@@ -1,0 +1,3 @@
+pub mod CallsJoined
+pub mod Laws
+pub mod ReadsBack
