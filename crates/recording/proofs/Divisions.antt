@@ -18,7 +18,7 @@ use Rattle.provider.specs.Rules.Event.{Event}
 use Rattle.recording.proofs.OneRecord.{record-reads}
 use Rattle.recording.specs.Layout.{body, framed}
 use Rattle.recording.specs.Promises.{IsByte, Recorded, kept, joined, recordsOf, ReadToEnd, RestShort, ReadOn, RecordsRead}
-use Rattle.recording.specs.Reading.{Division, noRecord, after, divideWithin, divide, eventIn, eventsOf, events, cutEvents, part, sizeIn}
+use Rattle.recording.specs.Reading.{Division, noRecord, after, divideWithin, divide, eventIn, eventsOf, cutEvents, part, sizeIn}
 
 -- fuel of the recording's length and more is enough
 enough : (f g : ℕ) (bs : List ℕ) → length bs ≤ f → length bs ≤ g → divideWithin f bs ≡ divideWithin g bs

@@ -3,7 +3,7 @@
 use mathlib.Core.Bool.{Bool, true, false, not}
 use mathlib.Core.List.{List, [], _∷_, _++_, append-assoc}
 use mathlib.Core.Path.{_≡_, refl, sym, ap, subst, _∙_}
-use Prim.Native.Nat.{ℕ, zero, suc, _+_, _-_, _<_, _≤_}
+use Prim.Native.Nat.{ℕ, suc, _+_, _-_, _<_, _≤_}
 use native.Mathlib.Omega.{arith}
 use lib.Dec.{eqb, ltb}
 use lib.ListN.{length, take, drop, replicate, length-drop, drop-of-length-le}
@@ -12,7 +12,8 @@ use borrow.Author.Tests.{ltb-true, ltb-false, le-leb, eqb-true, not-false}
 use Rattle.laws.specs.Choice.{if_then_else_}
 use Rattle.laws.specs.Lists.{padded}
 use Rattle.provider.specs.Rules.Event.{Event, Overflow}
-use Rattle.reassembly.proofs.Laws.{taken-ended, taken-open, behind-part, held-again, unfinished-short}
+use Rattle.reassembly.proofs.Ahead.{behind-part, taken-ended, taken-open}
+use Rattle.reassembly.proofs.Held.{held-again, unfinished-short}
 use Rattle.reassembly.specs.Parts.{holding, none, unfinished, waiting, isCut, Open, ahead, behindPart, takenOf, taken, Unended}
 use Rattle.reassembly.specs.declared.Found.{Found}
 use Rattle.reassembly.specs.declared.Found.the-variants as found

@@ -126,6 +126,10 @@ fedParts s (p ∷ ps) =
       next = fedParts (fedPart s p .next) ps .next;
     }
 
+-- "sometimes nothing": an empty part gives no line and changes nothing
+abbrev pub EmptyPartKeeps : Type 0
+EmptyPartKeeps = (s : Stream) → Ready s → fedPart s [] ≡ record { lines = []; next = s }
+
 -- the line of a cut record
 abbrev pub lineOf : Printed → List Line
 lineOf Nothing = []

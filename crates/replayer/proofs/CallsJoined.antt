@@ -1,22 +1,19 @@
--- Parts that are fed by calls give the lines of the joined recording: a call on a replay that was handed out is a step.
+-- Parts that are fed by calls are replayed as the joined recording: a call on a replay that was handed out is a step.
 -- Assumes nothing.
-use mathlib.Core.Bool.{Bool, true, false}
 use mathlib.Core.List.{List, [], _∷_, _++_, map, map-append}
 use mathlib.Core.Path.{_≡_, refl, sym, ap, _∙_}
 use Prim.Native.Nat.{ℕ, zero, suc}
 use lib.ListN.{length}
-use Rattle.laws.specs.Choice.{if_then_else_}
 use Rattle.replay.proofs.Theorems.Parts.{stays-ready, start-ready, part-ready, parts-ready, parts-joined}
 use Rattle.replay.specs.Parts.{startStream, Ready, fed, ended}
-use Rattle.replay.specs.Promises.{Lines, lineThen, fedWithin, fedPart, fedParts, lineOf, joinedParts}
+use Rattle.replay.specs.Promises.{Lines, lineThen, fedWithin, fedPart, fedParts, lineOf}
 use Rattle.replay.specs.declared.Line.{Line}
 use Rattle.replay.specs.declared.parts.Ended.{Ended}
-use Rattle.replay.specs.declared.parts.Fed.{Fed}
 use Rattle.replay.specs.declared.parts.Printed.{Printed}
 use Rattle.replay.specs.declared.parts.Printed.the-variants.{Nothing, One}
 use Rattle.replay.specs.declared.parts.Stream.{Stream}
 use Rattle.replayer.proofs.ReadsBack.{reads-back}
-use Rattle.replayer.specs.Calls.{packedStream, isReplay, streamOf, packedLine, packedFed, fedBack, endedBack, returned, fedCall, endedCall}
+use Rattle.replayer.specs.Calls.{packedStream, packedLine, packedFed, fedBack, endedBack, fedCall, endedCall}
 use Rattle.replayer.specs.Demands.{CallLines, callThen, callsWithin, callsFed, lastLine, CallsJoined}
 use Rattle.replayer.specs.declared.FpFed.{FpFed}
 use Rattle.replayer.specs.declared.FpLine.{FpLine}
@@ -74,8 +71,15 @@ last-is e = by-line (e .line)
 pub calls-joined : CallsJoined
 calls-joined parts =
     let all = fedParts startStream parts in
-    ap (λ (a : CallLines). a .lines ++ lastLine (endedCall (a .next))) (parts-are startStream parts start-ready)
-    ∙ ap (λ (x : FpFed). map packedLine (all .lines) ++ lastLine x) (end-is (all .next) (parts-ready startStream parts start-ready))
-    ∙ ap (λ (ls : List FpLine). map packedLine (all .lines) ++ ls) (last-is (ended (all .next)))
-    ∙ sym (map-append packedLine (all .lines) (lineOf (ended (all .next) .line)))
-    ∙ ap (λ (ls : List Line). map packedLine ls) (parts-joined parts .printed)
+    let joined = parts-joined parts in
+    let calls = parts-are startStream parts start-ready in
+    let end = end-is (all .next) (parts-ready startStream parts start-ready) in
+    record {
+      printed = ap (λ (a : CallLines). a .lines ++ lastLine (endedCall (a .next))) calls
+          ∙ ap (λ (x : FpFed). map packedLine (all .lines) ++ lastLine x) end
+          ∙ ap (λ (ls : List FpLine). map packedLine (all .lines) ++ ls) (last-is (ended (all .next)))
+          ∙ sym (map-append packedLine (all .lines) (lineOf (ended (all .next) .line)))
+          ∙ ap (λ (ls : List Line). map packedLine ls) (joined .printed);
+      final = ap (λ (a : CallLines). endedCall (a .next) .next) calls ∙ ap (λ (x : FpFed). x .next) end ∙ ap packedStream (joined .final);
+      cut = ap (λ (a : CallLines). a .next) calls ∙ ap packedStream (joined .cut);
+    }

@@ -1,20 +1,18 @@
 -- A replay that was handed out reads back; any bytes are read as a stream that is ready.
 -- Assumes nothing.
 use mathlib.Core.Bool.{Bool, true, false}
-use mathlib.Core.Path.{_≡_, refl, sym, ap, subst, _∙_}
+use mathlib.Core.Path.{_≡_, refl, ap, _∙_}
 use lib.Dec.{eqb, leb}
 use Rattle.laws.specs.Choice.{if_then_else_}
 use Rattle.packed.proofs.ReadsBack as devices
-use Rattle.packed.specs.Packed.{flag, packed, isDevice, deviceOf}
-use Rattle.provider.specs.declared.Device.{Device}
-use Rattle.reassembly.proofs.Laws as records
+use Rattle.packed.specs.Packed.{flag}
+use Rattle.reassembly.proofs.ReadAgain as records
 use Rattle.reassembly.specs.declared.Again.{Again}
 use Rattle.replay.proofs.Theorems.Parts.{start-ready}
 use Rattle.replay.specs.Parts.{startStream, Ready}
 use Rattle.replay.specs.declared.parts.Stream.{Stream}
 use Rattle.replayer.specs.Calls.{packedStream, heldAgain, isReplay, readStream, streamOf}
 use Rattle.replayer.specs.Demands.{ReadsBack, AnyBytes}
-use Rattle.replayer.specs.declared.FpReplay.{FpReplay}
 
 flag-known : (b : Bool) → leb (flag b) 1 ≡ true
 flag-known true = refl

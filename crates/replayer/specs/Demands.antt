@@ -7,9 +7,11 @@ use Prim.Native.Nat.{ℕ, zero, suc}
 use lib.Dec.{eqb}
 use lib.ListN.{length}
 use Rattle.laws.specs.Choice.{if_then_else_}
+use Rattle.reassembly.specs.Parts.{none, unfinished}
+use Rattle.recording.specs.Reading.{divide, eventIn, events}
 use Rattle.replay.specs.Parts.{startStream, Ready}
 use Rattle.replay.specs.Promises.{joinedParts}
-use Rattle.replay.specs.Replay.{lines}
+use Rattle.replay.specs.Replay.{start, afterEvents, lines}
 use Rattle.replay.specs.declared.parts.Stream.{Stream}
 use Rattle.replayer.specs.Calls.{packedStream, isReplay, streamOf, packedLine, fedCall, endedCall}
 use Rattle.replayer.specs.declared.FpFed.{FpFed}
@@ -54,9 +56,18 @@ callsFed f (p ∷ ps) =
 abbrev pub lastLine : FpFed → List FpLine
 lastLine f = if eqb (f .status) 1 then f .line ∷ [] else []
 
--- parts that are fed by calls, and the call of the end, give the lines of the joined recording, wherever it was divided
+-- parts that are fed by calls, and the call of the end, give the lines, the final state and any cut record of the joined recording
+pub record CallsAsJoined (parts : List (List ℕ)) : Type 0 where
+  pub printed : callsFed (packedStream startStream) parts .lines ++ lastLine (endedCall (callsFed (packedStream startStream) parts .next))
+      ≡ map packedLine (lines (joinedParts parts))
+  pub final : endedCall (callsFed (packedStream startStream) parts .next) .next
+      ≡ packedStream (record { replay = afterEvents start (events (joinedParts parts)); unfinished = none })
+  pub cut : callsFed (packedStream startStream) parts .next
+      ≡ packedStream (record {
+        replay = afterEvents start (map eventIn (divide (joinedParts parts) .whole));
+        unfinished = unfinished (divide (joinedParts parts) .rest);
+      })
+
+-- wherever it was divided: every list of parts, empty ones included
 abbrev pub CallsJoined : Type 0
-CallsJoined =
-    (parts : List (List ℕ))
-    → callsFed (packedStream startStream) parts .lines ++ lastLine (endedCall (callsFed (packedStream startStream) parts .next))
-    ≡ map packedLine (lines (joinedParts parts))
+CallsJoined = (parts : List (List ℕ)) → CallsAsJoined parts

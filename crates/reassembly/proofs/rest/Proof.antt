@@ -1,9 +1,9 @@
 -- The rest of the part is put behind nothing.
-use mathlib.Core.Path.{_≡_, ap, _∙_}
+use mathlib.Core.Path.{ap, _∙_}
 use native.Mathlib.Omega.{arith}
 use borrow.Author.Needs.{needs}
 use Rattle.laws.proofs.Lists.{take-drop-rest}
-use Rattle.reassembly.proofs.Laws.{rest-long}
+use Rattle.reassembly.proofs.Cases.{rest-long}
 use Rattle.reassembly.proofs.rest.Statement.{statement}
 use Rattle.reassembly.proofs.rest.Tie as tie
 use Rattle.reassembly.specs.Parts.{longer}

@@ -13,21 +13,21 @@ use lib.Seq.{drop-append-add, drop-drop, length-take-le}
 use borrow.Author.Tests.{ltb-true, ltb-false, ne-eqb}
 use Rattle.provider.specs.Demands.Validity.{Valid}
 use Rattle.provider.specs.Rules.Event.{Event, Overflow}
-use Rattle.reassembly.proofs.Laws.{size-front, unfinished-long, unfinished-short, waiting-holding, waiting-skipped, open-cut, held-again, open-unfinished, open-none, more-to-come, behind-part, cut-skips}
+use Rattle.reassembly.proofs.Ahead.{behind-part}
+use Rattle.reassembly.proofs.Held.{cut-skips, held-again, more-to-come, open-cut, open-none, open-unfinished, size-front, unfinished-long, unfinished-short, waiting-holding, waiting-skipped}
 use Rattle.laws.specs.Choice.{if_then_else_}
 use Rattle.reassembly.specs.declared.Unfinished.{Unfinished}
-use Rattle.reassembly.specs.Parts.{skipping, none, unfinished, waiting, isCut, Skips, Holds, Open, ahead}
+use Rattle.reassembly.specs.Parts.{skipping, none, unfinished, waiting, isCut, Open, ahead}
 use Rattle.recording.proofs.Divisions.{ended-first, open-first, divide-on, rest-open, together}
-use Rattle.recording.specs.Reading.{Division, noRecord, after, divide, eventIn, events, cutEvents, part, sizeIn, zeros}
+use Rattle.recording.specs.Reading.{Division, noRecord, after, divide, eventIn, cutEvents, part, sizeIn, zeros}
 use Rattle.replay.proofs.Feeding.{long-marker, fed-open, fed-ended, ended-whole, ended-cut}
 use Rattle.replay.proofs.Theorems.Answers.{lines-on}
 use Rattle.replay.proofs.Theorems.Valid.{start-valid, shows-valid}
-use Rattle.replay.specs.Parts.{startStream, Ready, behindEvent, fedLine, waits, fed, ended}
-use Rattle.replay.specs.Promises.{Lines, lineThen, fedWithin, fedPart, fedParts, lineOf, joinedParts, AsJoined, PartsJoined, StepReadsOn, StaysReady, HeldShort}
+use Rattle.replay.specs.Parts.{startStream, Ready, behindEvent, fed, ended}
+use Rattle.replay.specs.Promises.{Lines, lineThen, fedWithin, fedPart, fedParts, lineOf, joinedParts, PartsJoined, StepReadsOn, StaysReady, HeldShort, EmptyPartKeeps}
 use Rattle.replay.specs.Replay.{start, shown, linesFrom, afterEvents, lines}
 use Rattle.replay.specs.declared.Line.{Line}
 use Rattle.replay.specs.declared.Replay.{Replay}
-use Rattle.replay.specs.declared.Shown.{Shown}
 use Rattle.replay.specs.declared.parts.Ended.{Ended}
 use Rattle.replay.specs.declared.parts.Fed.{Fed}
 use Rattle.replay.specs.declared.parts.Printed.{Printed}
@@ -231,6 +231,9 @@ come-step s bs at r h =
     let e = fed-ended s bs at refl k in
     ap (λ (p : Printed). lineThen p (fed s bs at .next) (toCome (fed s bs at .next) bs (fed s bs at .at))) (ap (λ (f : Fed). f .line) e)
     ∙ ap (λ (p : Printed). lineAnd p (toCome (fed s bs at .next) bs (fed s bs at .at))) (sym (ap (λ (f : Fed). f .line) e)))
+
+pub empty-part-keeps : EmptyPartKeeps
+empty-part-keeps s r = sym (come-all s []) ∙ come-end s [] 0 r (omega arith)
 
 -- the stream behind a part is ready
 pub part-ready : (s : Stream) (bs : List ℕ) → Ready s → Ready (fedPart s bs .next)

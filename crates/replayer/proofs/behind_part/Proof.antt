@@ -1,7 +1,6 @@
 -- The test is the definition's.
 use lib.ListN.{length}
 use borrow.Author.Tests.{le-leb, lt-leb}
-use borrow.Author.Needs.{needs}
 use Rattle.replayer.proofs.behind_part.Statement.{statement}
 use Rattle.replayer.proofs.behind_part.Tie as tie
 

@@ -1,9 +1,9 @@
 -- Less than a length field, or less than it says: the rest is held, or counted if it says too much.
-use mathlib.Core.Path.{_≡_, _∙_}
+use mathlib.Core.Path.{_∙_}
 use native.Mathlib.Omega.{arith}
 use lib.ListN.{length-drop}
 use borrow.Author.Needs.{needs}
-use Rattle.reassembly.proofs.Laws.{begin-within, begin-long, begin-short, field-short}
+use Rattle.reassembly.proofs.Cases.{begin-long, begin-short, begin-within, field-short}
 use Rattle.reassembly.proofs.Unfinished.begin.Statement.{statement}
 use Rattle.reassembly.proofs.Unfinished.begin.Tie as tie
 

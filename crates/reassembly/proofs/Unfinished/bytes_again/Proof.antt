@@ -1,10 +1,10 @@
 -- Each test asks whether the bytes are one record that is neither whole nor too long.
-use mathlib.Core.Path.{_≡_, sym, ap, _∙_}
+use mathlib.Core.Path.{_≡_, sym, _∙_}
 use native.Mathlib.Omega.{arith}
 use lib.ListN.{length}
 use lib.Seq.{length-take-le}
 use borrow.Author.Needs.{needs}
-use Rattle.reassembly.proofs.Laws.{again-over, again-byte, again-long, again-whole, again-cut}
+use Rattle.reassembly.proofs.ReadAgain.{again-byte, again-cut, again-long, again-over, again-whole}
 use Rattle.reassembly.proofs.Unfinished.bytes_again.Statement.{statement}
 use Rattle.reassembly.proofs.Unfinished.bytes_again.Tie as tie
 

@@ -1,11 +1,11 @@
 -- The part ends before the record, or the record in the part.
 use mathlib.Core.Path.{_≡_, ap, _∙_}
-use Prim.Native.Nat.{ℕ, _+_, _-_}
+use Prim.Native.Nat.{_+_, _-_}
 use native.Mathlib.Omega.{arith}
 use lib.ListN.{length, take, drop}
 use borrow.Author.Needs.{needs}
 use Rattle.laws.proofs.Lists.{take-drop-rest}
-use Rattle.reassembly.proofs.Laws.{fill-open, fill-ended}
+use Rattle.reassembly.proofs.Cases.{fill-ended, fill-open}
 use Rattle.reassembly.proofs.Unfinished.fill.Statement.{statement}
 use Rattle.reassembly.proofs.Unfinished.fill.Tie as tie
 use Rattle.reassembly.specs.Parts.{longer}

@@ -1,5 +1,5 @@
 -- Bytes are held, or some are still to be skipped: either way something stands before the next part.
-use Rattle.reassembly.proofs.Laws.{cut-skips, cut-holds}
+use Rattle.reassembly.proofs.Held.{cut-holds, cut-skips}
 use Rattle.reassembly.proofs.Unfinished.is_cut.Statement.{statement}
 use Rattle.reassembly.proofs.Unfinished.is_cut.Tie as tie
 

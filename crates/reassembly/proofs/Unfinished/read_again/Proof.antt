@@ -1,7 +1,7 @@
 -- Bytes to skip go with none that are held.
-use mathlib.Core.Path.{_≡_, _∙_}
+use mathlib.Core.Path.{_∙_}
 use borrow.Author.Needs.{needs}
-use Rattle.reassembly.proofs.Laws.{again-skips, again-both}
+use Rattle.reassembly.proofs.ReadAgain.{again-both, again-skips}
 use Rattle.reassembly.proofs.Unfinished.read_again.Statement.{statement}
 use Rattle.reassembly.proofs.Unfinished.read_again.Tie as tie
 

@@ -2,7 +2,8 @@
 use mathlib.Core.Path.{_∙_}
 use native.Mathlib.Omega.{arith}
 use borrow.Author.Needs.{needs}
-use Rattle.reassembly.proofs.Laws.{nothing-read, skips-on, skip-open, hold-open, hold-filling}
+use Rattle.reassembly.proofs.Cases.{nothing-read, skips-on}
+use Rattle.reassembly.proofs.Held.{hold-filling, hold-open, skip-open}
 use Rattle.reassembly.proofs.Unfinished.read_on.Statement.{statement}
 use Rattle.reassembly.proofs.Unfinished.read_on.Tie as tie
 

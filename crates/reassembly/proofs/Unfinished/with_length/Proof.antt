@@ -5,7 +5,7 @@ use Prim.Native.Nat.{ℕ, _+_, _-_}
 use native.Mathlib.Omega.{arith}
 use lib.ListN.{take, drop, getD}
 use borrow.Author.Needs.{needs}
-use Rattle.reassembly.proofs.Laws.{one-skips, one-more, one-filling}
+use Rattle.reassembly.proofs.Cases.{one-filling, one-more, one-skips}
 use Rattle.reassembly.proofs.Unfinished.with_length.Statement.{statement}
 use Rattle.reassembly.proofs.Unfinished.with_length.Tie as tie
 use Rattle.reassembly.specs.Parts.{Filling, longer, taken}

@@ -1,5 +1,5 @@
 -- What is held is read on; else each arm is a case of what stands at the place.
-use mathlib.Core.Path.{_≡_, sym, ap, _∙_}
+use mathlib.Core.Path.{sym, _∙_}
 use native.Mathlib.Omega.{arith}
 use borrow.Author.Needs.{needs}
 use Rattle.recording.proofs.Walking.{walked}
