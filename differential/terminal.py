@@ -8,11 +8,13 @@ import termios
 INPUT, OUTPUT, LOCAL, CHARACTERS = 0, 1, 3, 6
 # No character has a meaning but the one that ends the input.
 NO_CHARACTER = b"\0"
+# It closes a line, whatever else it is set to mean.
+LINE_END = 0x0A
 
 
 def end_character(recording):
-    """A byte that the recording does not hold, and is not zero; None if it holds them all."""
-    return next((bytes([byte]) for byte in range(1, 256) if byte not in recording), None)
+    """A byte that the recording does not hold, neither zero nor a line end; None if it holds them all."""
+    return next((bytes([byte]) for byte in range(1, 256) if byte not in recording and byte != LINE_END), None)
 
 
 @contextlib.contextmanager
