@@ -43,6 +43,8 @@ TURNED = (
 # Lemmas that port.py had turned and that would now fall together with a definition of their crate: the name, and the files that know it.
 ALIKE = {
     "is_name": ("names/proofs/Readings.antt", "names/proofs/ValidNames.antt"),
+    "by_form": ("replay/proofs/Theorems/Answers.antt",),
+    "list_length": ("recording/proofs/OneRecord.antt",),
     "not_opened": ("pairing/proofs/Laws.antt", "pairing/proofs/passkey_checked/Proof.antt", "pairing/proofs/account_key_write/Proof.antt"),
     "too_long": ("recording/proofs/Laws.antt", "recording/proofs/frame/write/Proof.antt"),
 }
@@ -94,7 +96,9 @@ def renaming():
 
 
 def turned(text, names):
-    return WORD.sub(lambda m: names.get(m.group(0), m.group(0)), text)
+    """What stands in a string is an output and stays."""
+    parts = re.split(r'("(?:[^"\\]|\\.)*")', text)
+    return "".join(p if p.startswith('"') else WORD.sub(lambda m: names.get(m.group(0), m.group(0)), p) for p in parts)
 
 
 def line_turned(line, names):
@@ -120,7 +124,9 @@ def main(argv):
     for f in sorted(CRATES.glob("*/**/*.antt")) + sorted(CRATES.glob("*/src/**/*.rt")) + sorted(CRATES.glob("*/must-fail/*.edit")):
         if "out" not in f.parts:
             f.write_text("\n".join(line_turned(line, names) for line in f.read_text().split("\n")))
-    of_documents = {n: snake(n) for n in TURNED} | names
+    # the name of a kind in a replay's line, which a document may mean
+    kinds = set(re.findall(r'ascii "([a-z-]+)"', (CRATES / "replay_text/specs/Text.antt").read_text()))
+    of_documents = {old: new for old, new in ({n: snake(n) for n in TURNED} | names).items() if old not in kinds}
     for f in sorted(pathlib.Path(".").glob("*.md")) + sorted(pathlib.Path("docs").glob("**/*.md")):
         f.write_text(in_backquotes(f.read_text(), of_documents))
     print(f"respell: {len(names)} names")

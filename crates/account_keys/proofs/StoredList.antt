@@ -18,7 +18,7 @@ use Rattle.laws.proofs.Lists.{paste-at, set4-front}
 use Rattle.laws.specs.BigEndian.{number2}
 use Rattle.laws.specs.Choice.{if◌then◌else◌, ◌and◌, ◌or◌}
 use Rattle.laws.specs.Lists.{All}
-use Rattle.account_keys.specs.Keys.{limit, Sized, member, owned, held, kept}
+use Rattle.account_keys.specs.Keys.{limit, Sized, member, owned, kept}
 use Rattle.account_keys.specs.StoredList.{key_at, keys_in, key_bytes, well_sized, no_reading, reading_of, reading_under, older_reading, reading, writing_under, writing}
 use Rattle.account_keys.specs.declared.AccountKey.{AccountKey}
 use Rattle.account_keys.specs.declared.AccountKeys.{AccountKeys}

@@ -1,5 +1,7 @@
 // The owners' account keys, and the stored list: document 01, "The device and its events" and "Stored list"; document 02 (ii), the
 // order of use, and (vi), ten keys and the list's two versions.
+#![tactic(auto)]
+
 ghost use Rattle.std.specs.Prelude.{◌≡◌, [], ◌∷◌, ◌++◌, ◌+◌, ◌*◌, ◌<◌, ◌≤◌, length, drop};
 ghost use Rattle.basics.specs.Output.{report_of, placed};
 ghost use Rattle.account_keys.specs.Keys as rule;
@@ -24,27 +26,27 @@ const OLDER: u8 = 0x01;
 const OLDER_LIMIT: usize = 5;
 
 // The key that a phone wrote to become an owner.
-#[derive(Drop)]
+#[derive(Clone, Copy)]
 pub struct AccountKey {
     pub bytes: [u8; 16],
 }
 
 // The keys held, least recently used first, none twice: the first `count` of `keys`; the other places are zero.
-#[derive(Drop)]
+#[derive(Clone, Copy)]
 pub struct AccountKeys {
     pub keys: [AccountKey; LIMIT],
     pub count: usize,
 }
 
 // Whether a stored list could be read.
-#[derive(Drop)]
+#[derive(Clone, Copy)]
 pub enum ListForm {
     WellFormed,
     Malformed,
 }
 
 // That, and the keys it held: none if it was malformed.
-#[derive(Drop)]
+#[derive(Clone, Copy)]
 pub struct Reading {
     pub form: ListForm,
     pub keys: AccountKeys,

@@ -13,7 +13,6 @@ use borrow.Author.Tests.{le-leb, leb-true}
 use Rattle.laws.proofs.Choice.{and_left}
 use Rattle.laws.proofs.Filled.{length_tabulate, get_d_tabulate, tabulate_ext, tabulate_get_or}
 use Rattle.laws.proofs.Xor.{xor_cancel}
-use Rattle.laws.specs.Choice.{◌and◌}
 use Rattle.laws.specs.Tabulate.{tabulate}
 use Rattle.basics.specs.Bytes.{same}
 use Rattle.basics.proofs.Laws.{same_refl}

@@ -1,4 +1,6 @@
 // Additional data, source document 004: the packet that carries a personalized name, sealed with the session key.
+#![tactic(auto)]
+
 ghost use Rattle.std.specs.Prelude.{◌++◌, ◌≡◌, ◌+◌, ◌≤◌, length, take, drop};
 ghost use Rattle.std.proofs.Math.Seq.{paste};
 ghost use Rattle.laws.specs.Choice.{◌and◌};

@@ -1,4 +1,6 @@
 // The advertising payload and the account key filter that it shows: document 01, "Advertising"; document 02 (v), the filter is kept.
+#![tactic(auto)]
+
 ghost use Rattle.std.specs.Prelude.{◌≡◌, ◌+◌, ◌<◌, ◌≤◌, length, take, drop, replicate};
 ghost use mathlib.Core.List.{[], ◌∷◌, ◌++◌, foldl};
 ghost use Rattle.std.proofs.Math.Seq.{paste};
@@ -18,7 +20,7 @@ use basics::{Address, Report};
 pub const FILTER_MAX: usize = 6 * LIMIT / 5 + 3;
 
 // Whether a phone that finds its key shows the prompt.
-#[derive(Drop)]
+#[derive(Clone, Copy)]
 pub enum Prompt {
     Show,
     Hide,
@@ -26,7 +28,7 @@ pub enum Prompt {
 
 // What the advertisement shows, and rotation changes. The filter is that of the device's keys with this salt; its unused bytes are
 // zero.
-#[derive(Drop)]
+#[derive(Clone, Copy)]
 pub struct Beacon {
     pub ble: Address,
     pub salt: [u8; 2],

@@ -7,7 +7,6 @@ use native.Mathlib.Nat.{mod-lt}
 use native.Mathlib.Omega.{arith}
 use lib.Dec.{lit<}
 use lib.ListN.{length, get_or}
-use Rattle.laws.specs.Tabulate.{tabulate}
 use Rattle.laws.proofs.Filled.{get_d_tabulate, tabulate_ext, tabulate_get_or, tabulate_all}
 use Rattle.aes128.specs.State.{at, state}
 

@@ -11,7 +11,7 @@ ghost use Rattle.aes128.specs.Words.{block_of};
 use crate::word::{inv_mix_column, join, mix_column, substitute};
 
 // The columns of a state or of a round key, a word each.
-#[derive(Drop)]
+#[derive(Clone, Copy)]
 pub struct Columns {
     pub w0: u32,
     pub w1: u32,

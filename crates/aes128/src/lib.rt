@@ -1,5 +1,7 @@
 // AES-128: FIPS 197, one block encrypted (§5.1) and decrypted (§5.3), with the key expansion (§5.2).
 // specs/ has the standard's definitions; proofs/Inverse.antt proves that decryption undoes encryption.
+#![tactic(auto)]
+
 mod columns;
 mod expansion;
 mod inv_substitution;

@@ -1,4 +1,6 @@
 // What every layer of the provider speaks of: answers, link numbers and moments, addresses, blocks of sixteen bytes, lent outputs.
+#![tactic(auto)]
+
 ghost use Rattle.std.specs.Prelude.{◌≡◌, ◌+◌, ◌-◌, ◌≤◌, length};
 ghost use Rattle.std.proofs.Math.Seq.{paste};
 ghost use Rattle.basics.specs.Answers.{answer_number, is_taken};
@@ -6,23 +8,23 @@ ghost use Rattle.basics.specs.Bytes as spec;
 ghost use Rattle.basics.specs.Output as output;
 
 // The number of a link, of which 0 to 7 exist.
-#[derive(Drop)]
+#[derive(Clone, Copy)]
 pub struct Link(pub u8);
 
 // A moment of the device's clock, in milliseconds.
 #[repr(C)]
-#[derive(Drop)]
+#[derive(Clone, Copy)]
 pub struct Moment(pub u64);
 
 // A Bluetooth address, in the order in which a request names it.
 #[repr(C)]
-#[derive(Drop)]
+#[derive(Clone, Copy)]
 pub struct Address {
     pub bytes: [u8; 6],
 }
 
 // The answers of documents 01 and 02, one for each row of the table; `answer_number` of specs/Answers gives the number.
-#[derive(Drop)]
+#[derive(Clone, Copy)]
 pub enum Answer {
     Taken,
     UnknownLink,
@@ -78,7 +80,7 @@ impl Answer {
 }
 
 // What became of a text that goes to a lent output, 0 or 13, and how many bytes were written.
-#[derive(Drop)]
+#[derive(Clone, Copy)]
 pub struct Report {
     pub answer: Answer,
     pub length: usize,

@@ -1,6 +1,8 @@
 // The functions that bench/bench.c calls: each is one call of the function that is measured. The
 // caller owns all memory and lends as many bytes as the types say, so no output is too short; C
 // passes a slice as a pointer and a length, and an array as a pointer.
+#![tactic(auto)]
+
 ghost use Rattle.std.specs.Prelude.{◌++◌, ◌≡◌, drop};
 ghost use Rattle.laws.specs.Choice.{if◌then◌else◌};
 ghost use Rattle.additional_data.specs.Packet.{sealed, packet_size, opened};

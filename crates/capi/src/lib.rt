@@ -1,5 +1,7 @@
 // What C firmware links: one exported function for each event and question. include/fastpair.h is their page for C. C can't hand a
 // device in but as bytes, so each function begins by reading them.
+#![tactic(auto)]
+
 mod asking;
 mod control;
 mod pairing_events;

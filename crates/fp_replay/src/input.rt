@@ -1,12 +1,13 @@
 // A recording that is read through one buffer: what a read gives is a part, and is replayed at once.
-ghost use Rattle.std.specs.Prelude.{false, ◌≡◌, ◌≤◌, length};
+ghost use Rattle.std.specs.Prelude.{false, true, ◌≡◌, ◌≤◌, length};
 ghost use Rattle.replay.specs.Parts.{Ready};
 
-use crate::part;
+use crate::{output, part};
 use replay::parts::Stream;
+use std::io::{Error, ErrorKind, Read};
 
 // The stream after a read, whether there may be more to read, and whether the read failed.
-#[derive(Drop)]
+#[derive(Clone, Copy)]
 pub struct Got {
     pub stream: Stream,
     pub more: bool,
@@ -15,7 +16,14 @@ pub struct Got {
 
 // Reads to the end of a file. A proved loop has to end, and nothing says that a file does: the loop counts its turns down, from a
 // number that no run uses up.
-pub fn read_to_end(stream: Stream, fd: i32, name: &[u8], input: &mut [u8], out: &mut [u8]) -> Got
+pub fn read_to_end<R: Read>(
+    rt: &HostRuntime,
+    stream: Stream,
+    source: &mut R,
+    name: &str,
+    input: &mut [u8],
+    out: &mut [u8],
+) -> Got
     requires { Ready stream × (83 ≤ length out.old) }
     ensures { Ready result.stream }
 {
@@ -27,7 +35,7 @@ pub fn read_to_end(stream: Stream, fd: i32, name: &[u8], input: &mut [u8], out: 
     };
     while turns > 0 && got.more {
         let last = got.stream;
-        let next = read_some(last, fd, name, input, out);
+        let next = read_some(rt, last, source, name, input, out);
         got = next;
         turns -= 1;
     }
@@ -35,36 +43,53 @@ pub fn read_to_end(stream: Stream, fd: i32, name: &[u8], input: &mut [u8], out: 
 }
 
 // Reads what is there, once, and replays it. A read that a signal interrupted is no end.
-fn read_some(stream: Stream, fd: i32, name: &[u8], input: &mut [u8], out: &mut [u8]) -> Got
+fn read_some<R: Read>(
+    rt: &HostRuntime,
+    stream: Stream,
+    source: &mut R,
+    name: &str,
+    input: &mut [u8],
+    out: &mut [u8],
+) -> Got
     requires { Ready stream × (83 ≤ length out.old) }
     ensures { Ready result.stream }
 {
-    let got = libc::read(fd, input);
-    if got < 0 && os::errno() == libc::EINTR {
+    match source.read(input) {
+        Ok(0) => ended(stream, false),
+        Ok(count) => Got {
+            stream: part::take_in(rt, stream, &input[..count], out),
+            more: true,
+            failed: false,
+        },
+        Err(error) => not_read(rt, stream, name, error),
+    }
+}
+
+fn not_read(rt: &HostRuntime, stream: Stream, name: &str, error: Error) -> Got
+    ensures { result.stream ≡ stream }
+{
+    if error.kind() == ErrorKind::Interrupted {
         return Got {
             stream: stream,
             more: true,
             failed: false,
         };
     }
-    if got <= 0 {
-        return ended(stream, got < 0, name);
-    }
-    let count = io::count(got, input);
-    Got {
-        stream: part::take_in(stream, &input[..count], out),
-        more: true,
-        failed: false,
-    }
+    failed(rt, stream, name, error)
+}
+
+// A file can't be opened or read: a message, and the recording ends there.
+pub fn failed(rt: &HostRuntime, stream: Stream, name: &str, error: Error) -> Got
+    ensures { result ≡ record { stream = stream; more = false; failed = true } }
+{
+    output::report(rt, name, error);
+    ended(stream, true)
 }
 
 // Nothing more came: the file has ended, or the read failed.
-pub fn ended(stream: Stream, failed: bool, name: &[u8]) -> Got
+pub fn ended(stream: Stream, failed: bool) -> Got
     ensures { result ≡ record { stream = stream; more = false; failed = failed } }
 {
-    if failed {
-        os::fail(name);
-    }
     Got {
         stream: stream,
         more: false,

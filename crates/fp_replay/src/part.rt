@@ -8,7 +8,7 @@ use crate::output;
 use replay::parts::{Printed, Stream};
 
 // Between two steps: `at` is where the part is read on, and `filled` how much of the output buffer is in use.
-#[derive(Drop)]
+#[derive(Clone, Copy)]
 pub struct Turn {
     pub stream: Stream,
     pub at: usize,
@@ -16,19 +16,19 @@ pub struct Turn {
 }
 
 // All of a part; the lines of its records are written.
-pub fn take_in(stream: Stream, part: &[u8], out: &mut [u8]) -> Stream
+pub fn take_in(rt: &HostRuntime, stream: Stream, part: &[u8], out: &mut [u8]) -> Stream
     requires { Ready stream × (83 ≤ length out.old) }
     ensures value { result ≡ (fed_part stream part.now).next }
     ensures out_after { out.new ≡ (spec.drained stream (spec.unused out.old) part.now).output.bytes }
     ensures ready { Ready result }
 {
-    let turn = drain(stream, part, out);
-    output::flush(out, turn.filled);
+    let turn = drain(rt, stream, part, out);
+    output::flush(rt, out, turn.filled);
     turn.stream
 }
 
 // All steps of a part, one after the other.
-fn drain(stream: Stream, part: &[u8], out: &mut [u8]) -> Turn
+fn drain(rt: &HostRuntime, stream: Stream, part: &[u8], out: &mut [u8]) -> Turn
     requires { Ready stream × (83 ≤ length out.old) }
     ensures filled_after { spec.state result.stream out.new result.filled ≡ spec.drained stream (spec.unused out.old) part.now }
     ensures filled_in_bounds { result.filled ≤ length out.old }
@@ -39,14 +39,14 @@ fn drain(stream: Stream, part: &[u8], out: &mut [u8]) -> Turn
         filled: 0,
     };
     while turn.at < part.len() {
-        let next = one(turn, part, out);
+        let next = one(rt, turn, part, out);
         turn = next;
     }
     turn
 }
 
 // One step, and its line if there is one.
-fn one(turn: Turn, part: &[u8], out: &mut [u8]) -> Turn
+fn one(rt: &HostRuntime, turn: Turn, part: &[u8], out: &mut [u8]) -> Turn
     requires { Ready turn.stream × (83 ≤ length out.old) × (turn.filled ≤ length out.old) }
     ensures value { result ≡ spec.turned turn (fed turn.stream part.now turn.at) out.old }
     ensures out_after { out.new ≡ spec.turned_output turn (fed turn.stream part.now turn.at) out.old }
@@ -65,13 +65,13 @@ fn one(turn: Turn, part: &[u8], out: &mut [u8]) -> Turn
         Printed::One(shown) => Turn {
             stream: next,
             at: fed.at,
-            filled: output::print(out, turn.filled, shown),
+            filled: output::print(rt, out, turn.filled, shown),
         },
     }
 }
 
 // The end of the recording: the line of a cut record, if there is one.
-pub fn finish(stream: Stream, out: &mut [u8])
+pub fn finish(rt: &HostRuntime, stream: Stream, out: &mut [u8])
     requires { Ready stream × (83 ≤ length out.old) }
     ensures { out.new ≡ (spec.finished stream (spec.unused out.old)).bytes }
 {
@@ -80,8 +80,8 @@ pub fn finish(stream: Stream, out: &mut [u8])
     match line {
         Printed::Nothing => {}
         Printed::One(shown) => {
-            let filled = output::print(out, 0, shown);
-            output::flush(out, filled);
+            let filled = output::print(rt, out, 0, shown);
+            output::flush(rt, out, filled);
         }
     }
 }

@@ -1,4 +1,6 @@
 // HMAC-SHA256, RFC 2104, for a key of one block of 64 bytes: a shorter key is filled up with zeros.
+#![tactic(auto)]
+
 ghost use Rattle.std.specs.Prelude.{◌≡◌};
 ghost use Rattle.hmac_sha256.specs.Hmac.{hmac, key_pad};
 

@@ -3,7 +3,7 @@
 -- Assumes nothing.
 use Rattle.std.specs.Prelude.{Bool, true, false, not, List, [], ◌∷◌, ◌++◌, map, ℕ, ◌+◌, ◌-◌, eqb, length, take, drop, get_or, replicate}
 use Rattle.std.specs.Int.Bits.{bit_and}
-use Rattle.laws.specs.Choice.{if◌then◌else◌, ◌and◌, ◌or◌}
+use Rattle.laws.specs.Choice.{if◌then◌else◌, ◌or◌}
 use Rattle.account_keys.specs.declared.AccountKey.{AccountKey}
 use Rattle.aes128.specs.Cipher.{cipher, inv_cipher}
 use Rattle.basics.specs.declared.Address.{Address}

@@ -1,5 +1,7 @@
 // Document 01, "Key-based write", over the block of source document 004, table 1: the keys that are tried, the answer that a request
 // gets, what it changes, its response, and by document 02 the packet with the name, the use of a key and the address that is named.
+#![tactic(auto)]
+
 pub mod named;
 
 ghost use Rattle.std.specs.Prelude.{◌≡◌, true, not, [], ◌∷◌, map, ◌<◌, ◌≤◌, length};
@@ -21,7 +23,7 @@ use request_guard::{Guard, Salt};
 use sessions::{Session, Stage};
 
 // What the secure element made of the public key in an 80-byte request.
-#[derive(Drop)]
+#[derive(Clone, Copy)]
 pub struct Element {
     pub accepted: bool,
     pub secret: [u8; 32],
@@ -29,7 +31,7 @@ pub struct Element {
 
 // The address that a seeker asks to be bonded with, if it asks; else zero.
 #[repr(C)]
-#[derive(Drop)]
+#[derive(Clone, Copy)]
 pub struct Bond {
     pub wanted: bool,
     pub address: Address,
@@ -37,7 +39,7 @@ pub struct Bond {
 
 // What trying the keys came to: the address that is named, neither if no key fits; how many were tried; and the key that fits with
 // the block as it opens it, else zero.
-#[derive(Drop)]
+#[derive(Clone, Copy)]
 pub struct Search {
     pub named: Named,
     pub tried: u8,
@@ -46,7 +48,7 @@ pub struct Search {
 }
 
 // What a request is decided by, beside the link's session.
-#[derive(Drop)]
+#[derive(Clone, Copy)]
 pub struct Context {
     pub ble: Address,
     pub public: Address,
@@ -59,7 +61,7 @@ pub struct Context {
 
 // What a request comes to: the answer, all that it hands out, the guard and the session afterwards, whether the name is sent, and
 // whether the session's key is used.
-#[derive(Drop)]
+#[derive(Clone, Copy)]
 pub struct Decision {
     pub answer: Answer,
     pub tried: u8,

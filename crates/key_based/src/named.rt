@@ -5,7 +5,7 @@ ghost use Rattle.key_based.specs.Named.{named_number, address_named, asks_rotati
 
 use basics::Address;
 
-#[derive(Drop)]
+#[derive(Clone, Copy)]
 pub enum Named {
     Neither,
     Ble,

@@ -1,1 +1,2 @@
 // Laws that several crates need and the prover's library lacks. There is no code here: the laws stand in proofs/.
+#![tactic(auto)]

@@ -1,4 +1,6 @@
 // Personalized names: document 02 (i), 0 to 64 bytes of UTF-8 as RFC 3629 has it.
+#![tactic(auto)]
+
 pub mod utf8;
 
 ghost use Rattle.std.specs.Prelude.{◌≡◌, ◌≤◌, length};
@@ -9,14 +11,14 @@ pub const NAME_MAX: usize = 64;
 
 // A name: its first `length` bytes; the others are zero.
 #[repr(C)]
-#[derive(Drop)]
+#[derive(Clone, Copy)]
 pub struct Name {
     pub length: u64,
     pub bytes: [u8; NAME_MAX],
 }
 
 // What reading came to; `name` is the empty one where the bytes are none.
-#[derive(Drop)]
+#[derive(Clone, Copy)]
 pub struct NameReading {
     pub good: bool,
     pub name: Name,

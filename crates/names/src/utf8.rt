@@ -6,7 +6,7 @@ ghost use Rattle.names.specs.Utf8.{Range};
 
 // What is still to come of a character: `more` bytes, the first of them from `low` to `high`, and each other a tail.
 // Nothing is to come if a byte was refused.
-#[derive(Drop)]
+#[derive(Clone, Copy)]
 struct Expected {
     refused: bool,
     more: u8,

@@ -26,7 +26,6 @@ use Rattle.request_guard.proofs.Uncounted.{cleaned_uncounted}
 use Rattle.request_guard.specs.Guard.{bounded}
 use Rattle.request_guard.specs.Wait.{uncounted}
 use Rattle.sessions.specs.Sessions.{Canonical, link_count}
-use Rattle.account_keys.specs.Keys as keys
 
 -- ---- devices
 

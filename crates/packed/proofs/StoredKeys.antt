@@ -24,7 +24,6 @@ use Rattle.account_keys.specs.StoredList.{stored_list_max}
 use Rattle.packed.specs.Packed.{packed_keys, list_of, is_well_formed, flag}
 use Rattle.packed.specs.declared.FpStored.{FpStored}
 use Rattle.provider.proofs.Theorems.ValidParts.{no_keys_valid}
-use Rattle.provider.specs.Demands.Validity.{Valid}
 use Rattle.account_keys.specs.Keys as keys
 
 pub list_back : (ks : AccountKeys) → keys.Valid ks → list_of (packed_keys ks) ≡ record { form = WellFormed; keys = ks }

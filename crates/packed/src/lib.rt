@@ -1,5 +1,7 @@
 // A device as C holds it: plain numbers, without a gap between them. What C hands in may be any bytes: `unpack` tells whether they
 // are served, and which device they are.
+#![tactic(auto)]
+
 pub mod pack;
 pub mod unpack;
 
@@ -14,7 +16,7 @@ use sessions::LINKS;
 
 // One link: the number of its stage, 0 for idle, and what it holds.
 #[repr(C)]
-#[derive(Drop)]
+#[derive(Clone, Copy)]
 pub struct FpSession {
     pub since: Moment,
     pub passkey: u32,
@@ -25,7 +27,7 @@ pub struct FpSession {
 
 // The account keys as the stored list, of which the first `length` bytes are in use.
 #[repr(C)]
-#[derive(Drop)]
+#[derive(Clone, Copy)]
 pub struct FpStored {
     pub length: u64,
     pub bytes: [u8; STORED_LIST_MAX],
@@ -34,7 +36,7 @@ pub struct FpStored {
 
 // A device in plain numbers, without a gap between them: what C does not name is reserved and zero.
 #[repr(C)]
-#[derive(Drop)]
+#[derive(Clone, Copy)]
 pub struct FpDevice {
     pub clock: Moment,
     pub sessions: [FpSession; LINKS],
@@ -56,7 +58,7 @@ pub struct FpDevice {
 // packet with the name, 0 where none is sent; `named` is 1 where a request named the BLE address, and then `rotate` says so to the
 // radio, 2 for the public address, else 0.
 #[repr(C)]
-#[derive(Drop)]
+#[derive(Clone, Copy)]
 pub struct FpReply {
     pub answer: u8,
     pub tried: u8,
@@ -68,7 +70,7 @@ pub struct FpReply {
 }
 
 #[repr(C)]
-#[derive(Drop)]
+#[derive(Clone, Copy)]
 pub struct FpOutcome {
     pub next: FpDevice,
     pub reply: FpReply,
@@ -77,7 +79,7 @@ pub struct FpOutcome {
 
 // What became of a text that goes to a lent output, and how many bytes were written.
 #[repr(C)]
-#[derive(Drop)]
+#[derive(Clone, Copy)]
 pub struct FpReport {
     pub length: u64,
     pub answer: u8,
@@ -86,14 +88,14 @@ pub struct FpReport {
 
 // What the secure element made of the public key in an 80-byte request; `accepted` is 0 for a rejected point.
 #[repr(C)]
-#[derive(Drop)]
+#[derive(Clone, Copy)]
 pub struct FpElement {
     pub accepted: u8,
     pub secret: [u8; 32],
 }
 
 // What was handed in, read as a device; `device` is `off` where the bytes are not served.
-#[derive(Drop)]
+#[derive(Clone, Copy)]
 pub struct Unpacked {
     pub known: bool,
     pub device: Device,

@@ -1,5 +1,7 @@
 // The pairing, passkey and account key events of document 01, and the name write of document 02. Each is a function of the link's
 // session alone: what it answers, the next session, and an account key or a name to keep.
+#![tactic(auto)]
+
 ghost use Rattle.std.specs.Prelude.{◌≡◌, [], ◌∷◌, ◌<◌, ◌≤◌, length, false};
 ghost use Rattle.account_keys.specs.Keys.{Kept};
 ghost use Rattle.pairing.specs.Pairing as rule;
@@ -11,7 +13,7 @@ use names::Name;
 use sessions::{Session, Stage};
 
 // Whether the radio is to confirm the passkey.
-#[derive(Drop)]
+#[derive(Clone, Copy)]
 pub enum Confirm {
     Unasked,
     Yes,
@@ -19,7 +21,7 @@ pub enum Confirm {
 }
 
 // What an event makes of a session; `key` is zero where it stores none, and `name` is empty where it renames nothing.
-#[derive(Drop)]
+#[derive(Clone, Copy)]
 pub struct SessionOutcome {
     pub answer: Answer,
     pub confirm: Confirm,
@@ -31,7 +33,7 @@ pub struct SessionOutcome {
 }
 
 // A passkey or account block after decryption; `plain` is zero where it is not as wanted.
-#[derive(Drop)]
+#[derive(Clone, Copy)]
 struct Opened {
     good: bool,
     plain: [u8; 16],

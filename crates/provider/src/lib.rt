@@ -1,4 +1,6 @@
 // The Fast Pair provider: one method for each event of document 01. A device goes in by value, and the next one comes back.
+#![tactic(auto)]
+
 mod links;
 
 ghost use Rattle.std.specs.Prelude.{◌≡◌, []};
@@ -23,7 +25,7 @@ use request_guard::wait::RotationWait;
 use sessions::Sessions;
 
 // All that an answer hands out.
-#[derive(Drop)]
+#[derive(Clone, Copy)]
 pub struct Reply {
     pub answer: Answer,
     // the number of keys tried
@@ -38,13 +40,13 @@ pub struct Reply {
 
 // What power-on fixes.
 #[repr(C)]
-#[derive(Drop)]
+#[derive(Clone, Copy)]
 pub struct Identity {
     pub public: Address,
     pub model: [u8; 3],
 }
 
-#[derive(Drop)]
+#[derive(Clone, Copy)]
 pub struct Device {
     pub clock: Moment,
     pub keys: AccountKeys,
@@ -58,7 +60,7 @@ pub struct Device {
 
 // What power-on is given besides the stored list and the name.
 #[repr(C)]
-#[derive(Drop)]
+#[derive(Clone, Copy)]
 pub struct Start {
     pub identity: Identity,
     pub ble: Address,
@@ -66,14 +68,14 @@ pub struct Start {
 }
 
 // The next device, and the answer.
-#[derive(Drop)]
+#[derive(Clone, Copy)]
 pub struct Outcome {
     pub next: Device,
     pub reply: Reply,
 }
 
 // Whether an event passed the checks before it; if not, `outcome` is its own, and else it holds the device after the clock step.
-#[derive(Drop)]
+#[derive(Clone, Copy)]
 struct Checked {
     passed: bool,
     outcome: Outcome,

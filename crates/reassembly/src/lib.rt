@@ -1,5 +1,7 @@
 // Document 02, request (viii): a recording that arrives in parts. Between two parts at most one unfinished record is held; of one that
 // is too long nothing is held but how much of it is still to be skipped.
+#![tactic(auto)]
+
 ghost use Rattle.std.specs.Prelude.{true, false, ◌≡◌, ◌+◌, ◌<◌, ◌≤◌, length, drop};
 ghost use Rattle.reassembly.specs.Parts as spec;
 ghost use Rattle.reassembly.specs.Parts.{Open, Holds, Filling, Unended};
@@ -15,7 +17,7 @@ const HELD_MAX: usize = RECORD_MAX - 1;
 
 // The first `count` of `bytes` are those of a record that is not whole yet, with its length field; the others are zero. While `skip`
 // bytes of a record that is too long are still to come, `count` is 0.
-#[derive(Drop)]
+#[derive(Clone, Copy)]
 pub struct Unfinished {
     pub bytes: [u8; RECORD_MAX],
     pub count: usize,
@@ -23,7 +25,7 @@ pub struct Unfinished {
 }
 
 // The record that began in an earlier part.
-#[derive(Drop)]
+#[derive(Clone, Copy)]
 pub enum Found {
     // it has not ended
     Nothing,
@@ -34,7 +36,7 @@ pub enum Found {
 }
 
 // What is held then, the place where the part is read on, and whether the record has ended.
-#[derive(Drop)]
+#[derive(Clone, Copy)]
 pub struct Taken {
     pub next: Unfinished,
     pub at: usize,
@@ -42,7 +44,7 @@ pub struct Taken {
 }
 
 // What reading again came to; `unfinished` is `none` where the fields are none.
-#[derive(Drop)]
+#[derive(Clone, Copy)]
 pub struct Again {
     pub good: bool,
     pub unfinished: Unfinished,

@@ -1,4 +1,6 @@
 // What C firmware links to record: one exported function for each kind of event. include/fastpair.h is their page for C.
+#![tactic(auto)]
+
 mod device_records;
 mod link_records;
 

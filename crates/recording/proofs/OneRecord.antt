@@ -302,8 +302,8 @@ module _ (stored name : List ℕ) (s : Start) (f : FitsStart s) (few : length st
       (append_assoc (bytes 2 (length stored) ++ stored) (start_bytes s) name
       ∙ append_assoc (bytes 2 (length stored)) stored (start_bytes s ++ name))
 
-  list_length : list_length startRecord ≡ length stored
-  list_length = ap (λ l. list_length l) start-parts ∙ number_read 2 (length stored) few
+  list_length_lem : list_length startRecord ≡ length stored
+  list_length_lem = ap (λ l. list_length l) start-parts ∙ number_read 2 (length stored) few
 
   start-bytes : start_bytes s ≡ s.ble.bytes ++ (s.identity.public.bytes ++ (s.identity.model ++ s.salt))
   start-bytes =
@@ -401,7 +401,7 @@ module _ (stored name : List ℕ) (s : Start) (f : FitsStart s) (few : length st
   power-on : read_power_on startRecord ≡ PowerOn stored name s
   unfolding read_power_on
   power-on =
-      rw list_length (or_marker_lem start-sized (λ i. PowerOn (read-stored i) (read_name i) (read-start i)))
+      rw list_length_lem (or_marker_lem start-sized (λ i. PowerOn (read-stored i) (read_name i) (read-start i)))
 
 -- ---- every event
 

@@ -8,14 +8,14 @@ use Prim.Native.Nat.{ℕ, suc, ◌+◌, ◌-◌, ◌≤◌}
 use native.Mathlib.Omega.{arith}
 use lib.Dec.{eqb, leb, ltb}
 use lib.ListN.{length, drop, get_or, length-replicate}
-use Rattle.pairing.specs.Pairing.{PairingStarted, ConfirmationNeeded, PasskeyWrite, PairingEnded, AccountKeyWrite, NameWrite}
+use Rattle.pairing.specs.Pairing.{PairingStarted, ConfirmationNeeded, PairingEnded, AccountKeyWrite, NameWrite}
 use borrow.Author.Tests.{ltb-false, leb-true, eqb-true, ltb-true, not-false}
 use Rattle.laws.proofs.Bitwise.{by_bit}
 use Rattle.laws.proofs.Choice.{or_false_left, or_false_right, and_left, and_right}
 use Rattle.laws.specs.BigEndian.{bytes}
 use Rattle.laws.specs.Choice.{if◌then◌else◌, ◌and◌, ◌or◌}
 use Rattle.laws.specs.Lists.{All}
-use Rattle.provider.specs.Rules.Event.{Event, Overflow, PowerOn, OnDevice, PairingMode, AddressRotated, FactoryReset, LinkEvent, LinkUp, LinkDown, KeyBasedWrite, OnSession}
+use Rattle.provider.specs.Rules.Event.{Event, Overflow, PowerOn, OnDevice, PairingMode, AddressRotated, FactoryReset, LinkEvent, LinkUp, LinkDown, OnSession}
 use Rattle.provider.specs.declared.Start.{Start}
 use Rattle.key_based.specs.declared.Element.{Element}
 use Rattle.basics.proofs.Laws.{same_eq}

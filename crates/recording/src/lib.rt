@@ -1,4 +1,6 @@
 // Document 02, request (iii): the records of the event queue: their layout, what every writer goes by, and the reader. docs/RECORDING.md is the layout.
+#![tactic(auto)]
+
 pub mod bytes;
 pub mod frame;
 pub mod reader;
@@ -8,7 +10,7 @@ ghost use Rattle.recording.specs.Layout as layout;
 ghost use Rattle.recording.specs.Reading as reading;
 
 // The kinds of event, in the order of document 01; the name write of document 02 is last.
-#[derive(Drop)]
+#[derive(Clone, Copy)]
 pub enum Kind {
     Marker,
     LinkUp,

@@ -5,7 +5,7 @@ ghost use Rattle.laws.specs.BigEndian.{number2};
 ghost use Rattle.recording.specs.Reading as reading;
 
 // What stands at a place of a recording.
-#[derive(Drop)]
+#[derive(Clone, Copy)]
 pub enum Next {
     // a whole record: the place of its first byte after the length field, and the place behind its last
     Record(usize, usize),
@@ -56,7 +56,7 @@ pub fn after_at(recording: &[u8], at: usize) -> usize
 }
 
 // The recording is the caller's and is never changed; a reader that moved is a new one.
-#[derive(Drop)]
+#[derive(Clone, Copy)]
 pub struct Reader<'a> {
     pub recording: &'a [u8],
     pub at: usize,

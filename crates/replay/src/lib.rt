@@ -1,5 +1,7 @@
 // Document 02, request (iii): the replay of a recording. An event of the recording goes to the device, and a line says what became
 // of it.
+#![tactic(auto)]
+
 pub mod parts;
 
 ghost use Rattle.std.specs.Prelude.{◌≡◌};
@@ -15,7 +17,7 @@ use replay_events::Played;
 
 // A replay between two events: whether a power-on was taken, how many events there were, and the device; before the first power-on
 // that is taken the device is none.
-#[derive(Drop)]
+#[derive(Clone, Copy)]
 pub struct Replay {
     pub started: bool,
     pub number: u64,
@@ -23,7 +25,7 @@ pub struct Replay {
 }
 
 // What is printed of an event.
-#[derive(Drop)]
+#[derive(Clone, Copy)]
 pub struct Line {
     pub number: u64,
     pub kind: Kind,
@@ -33,7 +35,7 @@ pub struct Line {
 }
 
 // The next replay, and the event's line.
-#[derive(Drop)]
+#[derive(Clone, Copy)]
 pub struct Shown {
     pub next: Replay,
     pub line: Line,

@@ -14,21 +14,21 @@ use recording::reader;
 use recording::reader::Next;
 
 // The replay between two parts, and what is held of the one unfinished record.
-#[derive(Drop)]
+#[derive(Clone, Copy)]
 pub struct Stream {
     pub replay: Replay,
     pub unfinished: Unfinished,
 }
 
 // A line, or none.
-#[derive(Drop)]
+#[derive(Clone, Copy)]
 pub enum Printed {
     Nothing,
     One(Line),
 }
 
 // The next stream, the place where the part is read on, and the line of the record that ended.
-#[derive(Drop)]
+#[derive(Clone, Copy)]
 pub struct Fed {
     pub next: Stream,
     pub at: usize,
@@ -36,7 +36,7 @@ pub struct Fed {
 }
 
 // The stream behind the end of a recording, and the line of a cut record.
-#[derive(Drop)]
+#[derive(Clone, Copy)]
 pub struct Ended {
     pub next: Stream,
     pub line: Printed,

@@ -1,4 +1,6 @@
 // One event of a recording on a device: the record's sizes and values are looked at first, and what is no event is a marker.
+#![tactic(auto)]
+
 mod fields;
 
 ghost use Rattle.std.specs.Prelude.{◌≡◌, ◌+◌, ◌≤◌, min, length};
@@ -15,7 +17,7 @@ use provider::{Device, Identity, Outcome, Start};
 use recording::Kind;
 
 // An event's kind and outcome.
-#[derive(Drop)]
+#[derive(Clone, Copy)]
 pub struct Played {
     pub kind: Kind,
     pub outcome: Outcome,

@@ -1,4 +1,6 @@
 // Document 02, request (iii): a line as text: number, kind, answer and list size, with single spaces.
+#![tactic(auto)]
+
 ghost use Rattle.std.specs.Prelude.{◌++◌, ◌≡◌, ◌+◌, ◌≤◌, length};
 ghost use Rattle.std.proofs.Math.Seq.{paste};
 ghost use Rattle.replay_text.specs.Text as spec;
@@ -57,10 +59,10 @@ fn put_kind(out: &mut [u8], at: usize, kind: Kind) -> usize
         Kind::AddressRotated => put(out, at, b"address-rotated"),
         Kind::PowerOn => put(out, at, b"power-on"),
         Kind::FactoryReset => put(out, at, b"factory-reset"),
-        Kind::KeyBasedWrite => put(out, at, b"key_based_write"),
+        Kind::KeyBasedWrite => put(out, at, b"key-based-write"),
         Kind::PairingStarted => put(out, at, b"pairing-started"),
         Kind::ConfirmationNeeded => put(out, at, b"confirmation-needed"),
-        Kind::PasskeyWrite => put(out, at, b"passkey_write_lem"),
+        Kind::PasskeyWrite => put(out, at, b"passkey-write"),
         Kind::PairingEnded => put(out, at, b"pairing-ended"),
         Kind::AccountKeyWrite => put(out, at, b"account-key-write"),
         Kind::NameWrite => put(out, at, b"name-write"),

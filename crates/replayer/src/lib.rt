@@ -1,4 +1,6 @@
 // What C links to replay a recording that arrives in parts. include/fastpair.h is the page for C.
+#![tactic(auto)]
+
 mod pack;
 mod unpack;
 
@@ -14,7 +16,7 @@ use replay::parts::Stream;
 // A replay between two calls: the first `held` of `bytes` are those of a record that is not whole yet; `skip` more bytes are still to be
 // skipped. In plain numbers, without a gap between them.
 #[repr(C)]
-#[derive(Drop)]
+#[derive(Clone, Copy)]
 pub struct FpReplay {
     pub device: FpDevice,
     pub number: u64,
@@ -27,7 +29,7 @@ pub struct FpReplay {
 
 // The line of an event; zeros where there is none.
 #[repr(C)]
-#[derive(Drop)]
+#[derive(Clone, Copy)]
 pub struct FpLine {
     pub number: u64,
     pub keys: u64,
@@ -38,7 +40,7 @@ pub struct FpLine {
 
 // `status` is 1 where there is a line, 0 where there is none, and 255 for bytes that are no replay.
 #[repr(C)]
-#[derive(Drop)]
+#[derive(Clone, Copy)]
 pub struct FpFed {
     pub next: FpReplay,
     pub line: FpLine,
@@ -48,7 +50,7 @@ pub struct FpFed {
 }
 
 // What was handed in, read as a stream; one of which nothing has come where the bytes are no replay.
-#[derive(Drop)]
+#[derive(Clone, Copy)]
 pub struct Unpacked {
     pub known: bool,
     pub stream: Stream,

@@ -1,5 +1,7 @@
 // What guards key-based writes: the last 16 accepted salts, and the failures that were counted (document 01); `wait` has the wait
 // for a rotation.
+#![tactic(auto)]
+
 pub mod wait;
 
 ghost use Rattle.std.specs.Prelude.{true, ◌≡◌, [], ◌∷◌, ◌++◌, ◌≤◌, ◌<◌, drop, eqb};
@@ -18,7 +20,7 @@ const LAST: usize = LIMIT - 1;
 
 // A request's salt: its first `length` bytes, 2 or 8; the others are zero.
 #[repr(C)]
-#[derive(Drop)]
+#[derive(Clone, Copy)]
 pub struct Salt {
     pub length: u8,
     pub bytes: [u8; 8],
@@ -26,7 +28,7 @@ pub struct Salt {
 
 // The salts of the last accepted requests, oldest first: the first `count`; the other places are zero.
 #[repr(C)]
-#[derive(Drop)]
+#[derive(Clone, Copy)]
 pub struct SpentSalts {
     pub salts: [Salt; LIMIT],
     pub count: u64,
@@ -34,14 +36,14 @@ pub struct SpentSalts {
 
 // How many requests in a row found no fitting key, and when the last one came; zero while the count is 0.
 #[repr(C)]
-#[derive(Drop)]
+#[derive(Clone, Copy)]
 pub struct Failures {
     pub count: u8,
     pub last: Moment,
 }
 
 #[repr(C)]
-#[derive(Drop)]
+#[derive(Clone, Copy)]
 pub struct Guard {
     pub spent: SpentSalts,
     pub failures: Failures,

@@ -4,7 +4,7 @@ ghost use Rattle.request_guard.specs.Wait.{no_wait, wait_after, uncounted};
 
 use crate::Guard;
 
-#[derive(Drop)]
+#[derive(Clone, Copy)]
 pub struct RotationWait {
     pub on: bool,
 }

@@ -1,4 +1,6 @@
 // The eight links and the key that each may hold: document 01, "A link is idle or holds a key K in one stage".
+#![tactic(auto)]
+
 ghost use Rattle.std.specs.Prelude.{◌≡◌, ◌<◌, length};
 ghost use Rattle.sessions.specs.Sessions.{link_count, stage_number, is_stage, becomes, idle, has_timer, at_clock, all_idle, session_at, with_session, expired};
 
@@ -8,7 +10,7 @@ use basics::{Link, Moment};
 pub const LINKS: usize = 8;
 
 // Document 01's stages; an idle link is in none.
-#[derive(Drop)]
+#[derive(Clone, Copy)]
 pub enum Stage {
     Idle,
     Asked,
@@ -20,7 +22,7 @@ pub enum Stage {
 
 // What one link holds: when its stage began, our passkey while it is to be confirmed, the stage and the session key K. In this
 // order it has the fewest gaps.
-#[derive(Drop)]
+#[derive(Clone, Copy)]
 pub struct Session {
     pub since: Moment,
     pub passkey: u32,
@@ -28,7 +30,7 @@ pub struct Session {
     pub key: [u8; 16],
 }
 
-#[derive(Drop)]
+#[derive(Clone, Copy)]
 pub struct Sessions {
     pub links: [Session; LINKS],
 }

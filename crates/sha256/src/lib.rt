@@ -1,4 +1,6 @@
 // SHA-256, FIPS 180-4: the digest of a message of whole bytes (§5.1.1, §6.2).
+#![tactic(auto)]
+
 mod compression;
 mod functions;
 
@@ -10,7 +12,7 @@ ghost use Rattle.sha256.specs.Hash.{hashed, joined, sha256};
 ghost use Rattle.sha256.specs.Steps.{digest_rest, last_blocks};
 
 // The eight words of a hash value, H0 to H7, or of the working variables a to h.
-#[derive(Drop)]
+#[derive(Clone, Copy)]
 pub struct Hash {
     pub a: u32,
     pub b: u32,
@@ -23,7 +25,7 @@ pub struct Hash {
 }
 
 // The blocks that hold a message's last bytes and its padding: `bytes[..end]`; the other bytes are zero.
-#[derive(Drop)]
+#[derive(Clone, Copy)]
 struct LastBlocks {
     bytes: [u8; 128],
     end: usize,

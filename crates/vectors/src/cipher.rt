@@ -3,34 +3,34 @@ ghost use Rattle.std.specs.Prelude.{◌<◌};
 
 use crate::hex::block_line;
 
-pub fn run() {
-    key_expansion();
-    appendix_b();
-    appendix_c1();
+pub fn run(rt: &HostRuntime) {
+    key_expansion(rt);
+    appendix_b(rt);
+    appendix_c1(rt);
 }
 
 // A.1: the eleven round keys.
-fn key_expansion() {
-    round_key(b"FIPS 197 A.1 round key 0", 0);
-    round_key(b"FIPS 197 A.1 round key 1", 1);
-    round_key(b"FIPS 197 A.1 round key 2", 2);
-    round_key(b"FIPS 197 A.1 round key 3", 3);
-    round_key(b"FIPS 197 A.1 round key 4", 4);
-    round_key(b"FIPS 197 A.1 round key 5", 5);
-    round_key(b"FIPS 197 A.1 round key 6", 6);
-    round_key(b"FIPS 197 A.1 round key 7", 7);
-    round_key(b"FIPS 197 A.1 round key 8", 8);
-    round_key(b"FIPS 197 A.1 round key 9", 9);
-    round_key(b"FIPS 197 A.1 round key 10", 10);
+fn key_expansion(rt: &HostRuntime) {
+    round_key(rt, b"FIPS 197 A.1 round key 0", 0);
+    round_key(rt, b"FIPS 197 A.1 round key 1", 1);
+    round_key(rt, b"FIPS 197 A.1 round key 2", 2);
+    round_key(rt, b"FIPS 197 A.1 round key 3", 3);
+    round_key(rt, b"FIPS 197 A.1 round key 4", 4);
+    round_key(rt, b"FIPS 197 A.1 round key 5", 5);
+    round_key(rt, b"FIPS 197 A.1 round key 6", 6);
+    round_key(rt, b"FIPS 197 A.1 round key 7", 7);
+    round_key(rt, b"FIPS 197 A.1 round key 8", 8);
+    round_key(rt, b"FIPS 197 A.1 round key 9", 9);
+    round_key(rt, b"FIPS 197 A.1 round key 10", 10);
 }
 
 // One line: a round key of A.1.
-fn round_key(name: &[u8], round: usize)
+fn round_key(rt: &HostRuntime, name: &[u8], round: usize)
     requires { round < 11 }
 {
     let keys = aes128::key_expansion(b_key());
     let key = keys[round];
-    block_line(name, &key);
+    block_line(rt, name, &key);
 }
 
 // The key of appendices A.1 and B.
@@ -38,30 +38,30 @@ fn b_key() -> [u8; 16] {
     *b"\x2b\x7e\x15\x16\x28\xae\xd2\xa6\xab\xf7\x15\x88\x09\xcf\x4f\x3c"
 }
 
-fn appendix_b() {
+fn appendix_b(rt: &HostRuntime) {
     let key = b_key();
     let plain = *b"\x32\x43\xf6\xa8\x88\x5a\x30\x8d\x31\x31\x98\xa2\xe0\x37\x07\x34";
     let cipher = *b"\x39\x25\x84\x1d\x02\xdc\x09\xfb\xdc\x11\x85\x97\x19\x6a\x0b\x32";
-    encrypted(b"FIPS 197 B encrypt", key, plain);
-    decrypted(b"FIPS 197 B decrypt", key, cipher);
+    encrypted(rt, b"FIPS 197 B encrypt", key, plain);
+    decrypted(rt, b"FIPS 197 B decrypt", key, cipher);
 }
 
-fn appendix_c1() {
+fn appendix_c1(rt: &HostRuntime) {
     let key = *b"\x00\x01\x02\x03\x04\x05\x06\x07\x08\x09\x0a\x0b\x0c\x0d\x0e\x0f";
     let plain = *b"\x00\x11\x22\x33\x44\x55\x66\x77\x88\x99\xaa\xbb\xcc\xdd\xee\xff";
     let cipher = *b"\x69\xc4\xe0\xd8\x6a\x7b\x04\x30\xd8\xcd\xb7\x80\x70\xb4\xc5\x5a";
-    encrypted(b"FIPS 197 C.1 encrypt", key, plain);
-    decrypted(b"FIPS 197 C.1 decrypt", key, cipher);
+    encrypted(rt, b"FIPS 197 C.1 encrypt", key, plain);
+    decrypted(rt, b"FIPS 197 C.1 decrypt", key, cipher);
 }
 
 // One line: the block encrypted.
-pub fn encrypted(name: &[u8], key: [u8; 16], block: [u8; 16]) {
+pub fn encrypted(rt: &HostRuntime, name: &[u8], key: [u8; 16], block: [u8; 16]) {
     let result = aes128::encrypt(key, block);
-    block_line(name, &result);
+    block_line(rt, name, &result);
 }
 
 // One line: the block decrypted.
-pub fn decrypted(name: &[u8], key: [u8; 16], block: [u8; 16]) {
+pub fn decrypted(rt: &HostRuntime, name: &[u8], key: [u8; 16], block: [u8; 16]) {
     let result = aes128::decrypt(key, block);
-    block_line(name, &result);
+    block_line(rt, name, &result);
 }

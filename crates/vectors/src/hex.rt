@@ -1,26 +1,29 @@
 // A line of output: a name, a space and bytes in hex.
-use libc::STDOUT_FILENO;
+use std::io::Print;
 
 // Writes the line in one call. What does not fit 256 bytes is left out.
-pub fn line(name: &[u8], bytes: &[u8]) {
+pub fn line(rt: &HostRuntime, name: &[u8], bytes: &[u8]) {
     let mut text = [0u8; 256];
     let named = put_text(&mut text, 0, name);
     let spaced = put(&mut text, named, b' ');
     let filled = put_bytes(&mut text, spaced, bytes);
     let n = put(&mut text, filled, b'\n');
-    send(&text, n);
+    send(rt, &text, n);
 }
 
 // One line: a key or a block.
-pub fn block_line(name: &[u8], bytes: &[u8; 16]) {
-    line(name, bytes);
+pub fn block_line(rt: &HostRuntime, name: &[u8], bytes: &[u8; 16]) {
+    line(rt, name, bytes);
 }
 
 // Writes the first n bytes of the text.
-fn send(text: &[u8; 256], n: usize) {
+fn send(rt: &HostRuntime, text: &[u8; 256], n: usize) {
     let all: &[u8] = text;
     if n <= all.len() {
-        io::write_all(STDOUT_FILENO, &all[0..n]);
+        match Print::write_all(rt, &all[0..n]) {
+            Ok(()) => {}
+            Err(_) => {}
+        }
     }
 }
 

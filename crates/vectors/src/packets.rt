@@ -7,20 +7,20 @@ ghost use Rattle.names.specs.Name.{reading, Valid};
 use crate::hex::line;
 use names::{Name, NameReading};
 
-pub fn run() {
+pub fn run(rt: &HostRuntime) {
     let letters = b"abcdefghijklmnopqrstuvwxyzabcdefghijklmnopqrstuvwxyzabcdefghijkl";
-    sealed(b"Fast Pair packet", published());
-    sealed(b"packet of 0 bytes", first(letters, 0));
-    sealed(b"packet of 1 byte", first(letters, 1));
-    sealed(b"packet of 15 bytes", first(letters, 15));
-    sealed(b"packet of 16 bytes", first(letters, 16));
-    sealed(b"packet of 17 bytes", first(letters, 17));
-    sealed(b"packet of 63 bytes", first(letters, 63));
-    sealed(b"packet of 64 bytes", first(letters, 64));
-    changed(b"Fast Pair packet, first byte of the tag changed", 0);
-    changed(b"Fast Pair packet, last byte of the tag changed", 7);
-    changed(b"Fast Pair packet, nonce changed", 15);
-    changed(b"Fast Pair packet, last byte changed", 41);
+    sealed(rt, b"Fast Pair packet", published());
+    sealed(rt, b"packet of 0 bytes", first(letters, 0));
+    sealed(rt, b"packet of 1 byte", first(letters, 1));
+    sealed(rt, b"packet of 15 bytes", first(letters, 15));
+    sealed(rt, b"packet of 16 bytes", first(letters, 16));
+    sealed(rt, b"packet of 17 bytes", first(letters, 17));
+    sealed(rt, b"packet of 63 bytes", first(letters, 63));
+    sealed(rt, b"packet of 64 bytes", first(letters, 64));
+    changed(rt, b"Fast Pair packet, first byte of the tag changed", 0);
+    changed(rt, b"Fast Pair packet, last byte of the tag changed", 7);
+    changed(rt, b"Fast Pair packet, nonce changed", 15);
+    changed(rt, b"Fast Pair packet, last byte changed", 41);
 }
 
 fn key() -> [u8; 16] {
@@ -47,27 +47,27 @@ fn first(text: &[u8], n: usize) -> Name
 }
 
 // Two lines: an output of 80 bytes, which held EE before, and the bytes of the name that its packet reads as.
-fn sealed(label: &[u8], name: Name)
+fn sealed(rt: &HostRuntime, label: &[u8], name: Name)
     requires { Valid name }
 {
     let mut out = [0xEEu8; 80];
     additional_data::seal(key(), nonce(), name, &mut out);
-    line(label, &out);
+    line(rt, label, &out);
     let reading = opened(key(), &out, 16 + name.length as usize);
     let again = reading.name;
     let bytes = again.bytes;
-    line(b"name read from it", &bytes);
+    line(rt, b"name read from it", &bytes);
 }
 
 // One line: whether the published packet is still read with one bit of a byte changed.
-fn changed(label: &[u8], at: usize)
+fn changed(rt: &HostRuntime, label: &[u8], at: usize)
     requires { at < 80 }
 {
     let mut out = [0u8; 80];
     additional_data::seal(key(), nonce(), published(), &mut out);
     out[at] = out[at] ^ 1;
     let reading = opened(key(), &out, 42);
-    line(label, &[reading.good as u8]);
+    line(rt, label, &[reading.good as u8]);
 }
 
 // The packet in the first n bytes of an output, read.

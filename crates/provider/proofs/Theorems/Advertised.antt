@@ -26,7 +26,7 @@ use Rattle.provider.specs.Demands.Use.{OrderNotAdvertised, RequestKeepsPayload}
 use Rattle.provider.specs.Demands.Validity.{Valid, written}
 use Rattle.provider.specs.Rules.Control.{advertised}
 use Rattle.provider.specs.Rules.Device.{Effect, with_keys, with_beacon, clock_step}
-use Rattle.provider.specs.Rules.Event.{LinkEvent, LinkUp, LinkDown, KeyBasedWrite, OnSession, OnLink, context_of, requested, with_stored, on_link, next}
+use Rattle.provider.specs.Rules.Event.{LinkEvent, LinkUp, LinkDown, KeyBasedWrite, OnSession, OnLink, context_of, requested, with_stored, on_link}
 use Rattle.provider.specs.declared.Device.{Device}
 use Rattle.sessions.specs.Sessions.{session_at}
 

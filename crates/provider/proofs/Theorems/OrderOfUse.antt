@@ -19,7 +19,6 @@ use Rattle.basics.proofs.Answers.{number_taken}
 use Rattle.basics.proofs.Laws.{same_eq}
 use Rattle.basics.specs.Bytes.{same}
 use Rattle.basics.specs.Answers.{is_taken}
-use Rattle.key_based.proofs.Deciding.{Way}
 use Rattle.pairing.proofs.SessionSteps.{account_key_taken}
 use Rattle.pairing.specs.Pairing.{PairingStarted, ConfirmationNeeded, PasskeyWrite, PairingEnded, AccountKeyWrite, NameWrite, written_key, stored_in}
 use Rattle.pairing.specs.declared.SessionOutcome.{SessionOutcome}

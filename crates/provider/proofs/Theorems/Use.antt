@@ -9,7 +9,7 @@ use borrow.Author.Tests.{not-true}
 use Rattle.laws.proofs.Choice.{true_is, fails_with, and_true_left}
 use Rattle.laws.specs.Choice.{◌and◌, ◌or◌}
 use Rattle.account_keys.proofs.Laws.{member_get}
-use Rattle.account_keys.specs.Keys.{zero_key, held, kept, used, stored}
+use Rattle.account_keys.specs.Keys.{zero_key, held, kept, used}
 use Rattle.account_keys.specs.declared.AccountKeys.{AccountKeys}
 use Rattle.basics.proofs.Answers.{unlike}
 use Rattle.basics.specs.Answers.{is_taken}
@@ -31,7 +31,7 @@ use Rattle.provider.proofs.Theorems.Ways.{way}
 use Rattle.provider.specs.Demands.Use.{restarts, may_use, KeysKept, UsesToldKey, RequestUsesToldKey}
 use Rattle.provider.specs.Demands.Validity.{Valid}
 use Rattle.provider.specs.Rules.Device.{Effect, clock_step}
-use Rattle.provider.specs.Rules.Event.{DeviceEvent, PairingMode, AddressRotated, FactoryReset, LinkEvent, LinkUp, LinkDown, KeyBasedWrite, OnSession, OnDevice, OnLink, context_of, requested, on_device, on_link, next}
+use Rattle.provider.specs.Rules.Event.{DeviceEvent, PairingMode, AddressRotated, FactoryReset, LinkEvent, LinkUp, LinkDown, KeyBasedWrite, OnSession, OnDevice, OnLink, context_of, requested, on_device, on_link}
 use Rattle.provider.specs.declared.Device.{Device}
 use Rattle.sessions.specs.Sessions.{link_count, absent_session, session_at}
 use Rattle.sessions.specs.declared.Session.{Session}

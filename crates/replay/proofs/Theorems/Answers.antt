@@ -119,15 +119,15 @@ given_lines n d (c ∷ cs) =
 power_on_anew : (d c : Device) (stored name : List ℕ) (s : Start) → answer_of d (PowerOn stored name s) ≡ Taken
     → (step c (PowerOn stored name s)).gives ≡ (step d (PowerOn stored name s)).gives
 unfolding power_on
-power_on_anew d c stored name s h = by_form (reading stored).form (is_name name) h
+power_on_anew d c stored name s h = by_form_lem (reading stored).form (is_name name) h
   where
-    by_form : (f : ListForm) (t : Bool)
+    by_form_lem : (f : ListForm) (t : Bool)
         → (by_form f (if t then takes (started (reading stored).keys (name_of name) s) else answers d ListMalformed []) (answers d ListMalformed [])).gives.reply.answer ≡ Taken
         → (by_form f (if t then takes (started (reading stored).keys (name_of name) s) else answers c ListMalformed []) (answers c ListMalformed [])).gives
         ≡ (by_form f (if t then takes (started (reading stored).keys (name_of name) s) else answers d ListMalformed []) (answers d ListMalformed [])).gives
-    by_form WellFormed true h = refl
-    by_form WellFormed false h = absurd (unlike ListMalformed Taken tt h)
-    by_form Malformed t h = absurd (unlike ListMalformed Taken tt h)
+    by_form_lem WellFormed true h = refl
+    by_form_lem WellFormed false h = absurd (unlike ListMalformed Taken tt h)
+    by_form_lem Malformed t h = absurd (unlike ListMalformed Taken tt h)
 
 -- the power-on's line, and the replay behind it, whatever there was before
 started_anew : (r : Replay) (d : Device) (stored name : List ℕ) (s : Start) → answer_of d (PowerOn stored name s) ≡ Taken

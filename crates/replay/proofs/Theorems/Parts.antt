@@ -17,7 +17,7 @@ use Rattle.replay.proofs.Theorems.Answers.{lines_on}
 use Rattle.replay.proofs.Theorems.Valid.{start_valid, shows_valid}
 use Rattle.replay.specs.Parts.{start_stream, Ready, behind_event, fed, ended}
 use Rattle.replay.specs.Promises.{Lines, line_then, fed_within, fed_part, fed_parts, line_of, joined_parts, PartsJoined, StepReadsOn, StaysReady, HeldShort, EmptyPartKeeps}
-use Rattle.replay.specs.Replay.{start, shown, lines_from, after_events, lines}
+use Rattle.replay.specs.Replay.{start, shown, lines_from, after_events}
 use Rattle.replay.specs.declared.Line.{Line}
 use Rattle.replay.specs.declared.Replay.{Replay}
 use Rattle.replay.specs.declared.parts.Ended.{Ended}

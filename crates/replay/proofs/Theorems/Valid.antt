@@ -9,7 +9,6 @@ use Rattle.provider.specs.Rules.Event.{step}
 use Rattle.recording.specs.Layout.{kind_of}
 use Rattle.replay.specs.Promises.{ShowsValid}
 use Rattle.replay.specs.Replay.{start, one_more, has_device, shown_of, answered, refused}
-use Rattle.replay.specs.declared.Replay.{Replay}
 
 pub start_valid : Valid start.device
 start_valid = off_valid

@@ -1,0 +1,67 @@
+-- In an arm the byte is the arm's; in the last it is none of theirs.
+use mathlib.Core.List.{List, [], ◌∷◌}
+use mathlib.Core.Path.{sym}
+use Rattle.recording.specs.declared.Kind.{Kind}
+use Rattle.recording.specs.declared.Kind.TheVariants as kind
+use Rattle.recording.proofs.KindsRead.{no_kind}
+use Rattle.recording.proofs.kind_in.Goals as goal
+
+-- the kinds that the arms before the last are for
+abbrev kinds : List Kind
+kinds =
+    kind.LinkUp
+    ∷ kind.LinkDown
+    ∷ kind.PairingMode
+    ∷ kind.AddressRotated
+    ∷ kind.PowerOn
+    ∷ kind.FactoryReset
+    ∷ kind.KeyBasedWrite
+    ∷ kind.PairingStarted
+    ∷ kind.ConfirmationNeeded
+    ∷ kind.PasskeyWrite
+    ∷ kind.PairingEnded
+    ∷ kind.AccountKeyWrite
+    ∷ kind.NameWrite
+    ∷ []
+
+pub returns-in-2 : goal.returns-in-2
+returns-in-2 c = rw c.in-2.is
+
+pub returns-in-3 : goal.returns-in-3
+returns-in-3 c = rw c.in-3.is
+
+pub returns-in-4 : goal.returns-in-4
+returns-in-4 c = rw c.in-4.is
+
+pub returns-in-5 : goal.returns-in-5
+returns-in-5 c = rw c.in-5.is
+
+pub returns-in-6 : goal.returns-in-6
+returns-in-6 c = rw c.in-6.is
+
+pub returns-in-7 : goal.returns-in-7
+returns-in-7 c = rw c.in-7.is
+
+pub returns-in-8 : goal.returns-in-8
+returns-in-8 c = rw c.in-8.is
+
+pub returns-in-9 : goal.returns-in-9
+returns-in-9 c = rw c.in-9.is
+
+pub returns-in-10 : goal.returns-in-10
+returns-in-10 c = rw c.in-10.is
+
+pub returns-in-11 : goal.returns-in-11
+returns-in-11 c = rw c.in-11.is
+
+pub returns-in-12 : goal.returns-in-12
+returns-in-12 c = rw c.in-12.is
+
+pub returns-in-13 : goal.returns-in-13
+returns-in-13 c = rw c.in-13.is
+
+pub returns-in-14 : goal.returns-in-14
+returns-in-14 c = rw c.in-14.is
+
+pub returns-in_default : goal.returns-in_default
+returns-in_default c = sym (no_kind c.args.byte Unit kinds c.in_default.in_default-own.rest)
