@@ -15,7 +15,7 @@ import sys
 
 CRATES = pathlib.Path("crates")
 OWN_PROOF = ("Proof.antt", "Answers.antt", "Invariants.antt")
-TOP = re.compile(r"^(?:(?:abbrev|unfoldable|pub|private|opaque) )*([^\s:(){}]+) :(?: |$)(.*)")
+TOP = re.compile(r"^(?:(?:abbrev|unfoldable|pub|private|opaque) )*([^\s:(){}]+)(?: \{[^}]*\})? :(?: |$)(.*)")
 FIELD = re.compile(r"^\s+pub ([^\s:(){}]+) :(?: |$)")
 # one word of antt: whatever stands between blanks, brackets, commas, dots, colons and semicolons
 WORD = re.compile(r"[^\s(){}\[\].,;:`\"λ]+")

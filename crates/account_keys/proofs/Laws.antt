@@ -10,7 +10,7 @@ use lib.ListN.{length, take, drop, set, get_or, replicate}
 use lib.Seq.{take-take, paste}
 use borrow.Author.Tests.{le-leb, lt-leb}
 use Rattle.laws.proofs.Choice.{or_right}
-use Rattle.laws.proofs.Lists.{drop-take-more, drop-take-all}
+use Rattle.laws.proofs.Lists.{drop_take_more, drop_take_all}
 use Rattle.laws.proofs.Padded.{take_padded, length_places, set_free_place, count_one_more, paste_one_less, count_one_less, one_less_within}
 use Rattle.laws.specs.Choice.{◌or◌}
 use Rattle.laws.specs.Lists.{padded, All}
@@ -27,10 +27,10 @@ absent_key = record { bytes = [] }
 pub member_step : (l : List AccountKey) (n i : ℕ) (k : AccountKey) → i < n → n ≤ length l
     → member (drop i (take n l)) k ≡ (same (get_or l i absent_key).bytes k.bytes or member
     (drop (i + 1) (take n l)) k)
-member_step l n i k h j = rw (drop-take-more l n i absent_key h j)
+member_step l n i k h j = rw (drop_take_more l n i absent_key h j)
 
 pub member_end : (l : List AccountKey) (n i : ℕ) (k : AccountKey) → n ≤ i → member (drop i (take n l)) k ≡ false
-member_end l n i k h = rw (drop-take-all l n i h)
+member_end l n i k h = rw (drop_take_all l n i h)
 
 -- the key at a place is held
 pub member_get : (l : List AccountKey) (i : ℕ) (z : AccountKey) → i < length l → member l (get_or l i z) ≡ true

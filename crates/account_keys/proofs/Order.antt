@@ -7,8 +7,9 @@ use Prim.Native.Nat.{ℕ, ◌≤◌}
 use lib.Dec.{eqb, leb}
 use lib.ListN.{length, drop, get_or}
 use borrow.Author.Tests.{leb-true, not-true}
-use Rattle.laws.proofs.Choice.{true_is, if-same, and_right, or_right, or_false, or_false_left, or_false_right}
-use Rattle.laws.specs.Choice.{if◌then◌else◌, ◌and◌, ◌or◌}
+use Rattle.laws.proofs.Choice.{true_is, if_same, and_right, or_right, or_false, or_false_left, or_false_right}
+use Rattle.laws.specs.Choice.{◌and◌, ◌or◌}
+use Rattle.std.specs.Prelude.{if◌then◌else◌}
 use Rattle.account_keys.specs.Keys.{limit, member, without, used, owned, stored}
 use Rattle.account_keys.specs.Promises.{stands_before, GoesLast, StoredGoesLast, RemovesFirst, OnlyFirstRemoved, LastUsedAgain}
 use Rattle.account_keys.specs.declared.AccountKey.{AccountKey}
@@ -85,7 +86,7 @@ last_before_none (x ∷ xs) k b e =
 before_last : (l : List AccountKey) (k a b : AccountKey) → stands_before (l ++ (k ∷ [])) a b ≡ true
     → same k.bytes b.bytes ≡ false
     → stands_before l a b ≡ true
-before_last [] k a b e n = absurd (true_is (sym (if-same (same k.bytes a.bytes) (λ _. refl)) ∙ e))
+before_last [] k a b e n = absurd (true_is (sym (if_same (same k.bytes a.bytes) (λ _. refl)) ∙ e))
 before_last (x ∷ xs) k a b e n = go (same x.bytes a.bytes) e (λ h. before_last xs k a b h n)
   where
     go : (c : Bool) → (if c then member (xs ++ (k ∷ [])) b else stands_before (xs ++ (k ∷ [])) a b) ≡ true

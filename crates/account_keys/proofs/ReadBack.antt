@@ -13,7 +13,7 @@ use lib.Seq.{take_all, take-suc, take-length, take_at, drop-append-add, drop-dro
 use borrow.Author.Tests.{leb-true, eqb-true, eqb-false}
 use Rattle.laws.proofs.All.{all_get, all_append}
 use Rattle.laws.proofs.Choice.{and_left, and_right}
-use Rattle.laws.proofs.Lists.{getD4-front}
+use Rattle.laws.proofs.Lists.{get_or4_front}
 use Rattle.laws.specs.BigEndian.{number2}
 use Rattle.laws.specs.Lists.{All}
 use Rattle.account_keys.specs.Keys.{Valid, Sized, limit, held, kept, owned}
@@ -117,7 +117,7 @@ writing_keys_in version b p h e v s =
     key_bytes_keys_in b n ∙ take_all (16 * n) (drop 4 b) (simp length-drop (omega arith))
     in
     rw (count, high, low, rest)
-    (ap (λ (x : ℕ). get_or b 0 0 ∷ get_or b 1 0 ∷ x ∷ get_or b 3 0 ∷ drop 4 b) (sym v) ∙ sym (getD4-front b 0 h))
+    (ap (λ (x : ℕ). get_or b 0 0 ∷ get_or b 1 0 ∷ x ∷ get_or b 3 0 ∷ drop 4 b) (sym v) ∙ sym (get_or4_front b 0 h))
 
 forms_differ : Malformed ≡ WellFormed → ⊥
 forms_differ e = let z : ◌≡◌ {A = ℕ} 0 1 = cc in omega arith

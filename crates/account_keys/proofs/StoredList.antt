@@ -14,9 +14,10 @@ use borrow.Author.Tests.{le-leb, lt-leb, eq-eqb, ne_eqb}
 use borrow.Rule.Slice.PartMut.{put_mid, same_len_mid}
 use Rattle.laws.proofs.All.{all_get, all_take}
 use Rattle.laws.proofs.Choice.{and_false, or_false, or_right}
-use Rattle.laws.proofs.Lists.{paste-at, set4-front}
+use Rattle.laws.proofs.Lists.{paste_at, set4_front}
 use Rattle.laws.specs.BigEndian.{number2}
-use Rattle.laws.specs.Choice.{if◌then◌else◌, ◌and◌, ◌or◌}
+use Rattle.laws.specs.Choice.{◌and◌, ◌or◌}
+use Rattle.std.specs.Prelude.{if◌then◌else◌}
 use Rattle.laws.specs.Lists.{All}
 use Rattle.account_keys.specs.Keys.{limit, Sized, member, owned, kept}
 use Rattle.account_keys.specs.StoredList.{key_at, keys_in, key_bytes, well_sized, no_reading, reading_of, reading_under, older_reading, reading, writing_under, writing}
@@ -61,7 +62,7 @@ key_bytes_more l o ks i n p h j e =
     in
     let at : 16 * (i + 1) ≡ 16 * i + 16 = omega arith in
     rw (e, next, key_bytes_snoc (take i (take n ks)) (get_or ks i absent_key), at, ← drop-drop 16 (16 * i) o)
-    (paste-at (key_bytes (take i (take n ks))) (drop (16 * i) o) (get_or ks i absent_key).bytes (16 * i) 16 front
+    (paste_at (key_bytes (take i (take n ks))) (drop (16 * i) o) (get_or ks i absent_key).bytes (16 * i) 16 front
     sized)
 
 -- ---- reading
@@ -305,7 +306,7 @@ module _ (l : List AccountKey) (p : All Sized l) (n : ℕ) (e : n ≡ length l) 
   writing_stored few h x q f g =
       let size : length (key_bytes l) ≡ 16 * n = length_key_bytes l p ∙ ap (λ (m : ℕ). 16 * m) (sym e) in
       let front : x ≡ (2 + 16 * n) / 256 % 256 ∷ (2 + 16 * n) % 256 ∷ 2 ∷ n % 256 ∷ drop 4 o =
-      f ∙ set4-front o ((2 + 16 * n) / 256 % 256) ((2 + 16 * n) % 256) 2 (n % 256) (omega arith)
+      f ∙ set4_front o ((2 + 16 * n) / 256 % 256) ((2 + 16 * n) % 256) 2 (n % 256) (omega arith)
       in
       let text : (2 + 16 * n) / 256 % 256 ∷ (2 + 16 * n) % 256 ∷ 2 ∷ n % 256 ∷ key_bytes l
       ≡ writing l = writing-is few in

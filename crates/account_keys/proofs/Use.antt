@@ -12,7 +12,8 @@ use lib.Seq.{get_or_at}
 use borrow.Author.Tests.{not-true}
 use Rattle.laws.proofs.Choice.{true_is, and_false, and_left, and_right}
 use Rattle.laws.proofs.Permuted.{length_permuted, all_permuted, first_last}
-use Rattle.laws.specs.Choice.{if◌then◌else◌, ◌and◌, ◌or◌}
+use Rattle.laws.specs.Choice.{◌and◌, ◌or◌}
+use Rattle.std.specs.Prelude.{if◌then◌else◌}
 use Rattle.account_keys.specs.Keys.{Sized, zero_key, held, member, without, used, owned}
 use Rattle.account_keys.specs.Promises.{UseMovesToEnd, UsesValid}
 use Rattle.account_keys.specs.declared.AccountKey.{AccountKey}

@@ -1,7 +1,7 @@
 -- Document 01, "The device and its events": the owners' account keys; document 02 (ii): the order of use.
 -- Assumes nothing.
-use Rattle.std.specs.Prelude.{Bool, true, false, not, List, [], ◌∷◌, ◌++◌, ◌≡◌, ℕ, ◌≤◌, leb, eqb, length, take, drop, get_or, replicate}
-use Rattle.laws.specs.Choice.{if◌then◌else◌, ◌and◌, ◌or◌}
+use Rattle.std.specs.Prelude.{Bool, true, false, not, List, [], ◌∷◌, ◌++◌, ◌≡◌, ℕ, ◌≤◌, leb, eqb, length, take, drop, get_or, replicate, if◌then◌else◌}
+use Rattle.laws.specs.Choice.{◌and◌, ◌or◌}
 use Rattle.laws.specs.Lists.{padded, All}
 use Rattle.account_keys.specs.declared.AccountKey.{AccountKey}
 use Rattle.account_keys.specs.declared.AccountKeys.{AccountKeys}

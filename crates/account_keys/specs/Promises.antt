@@ -1,9 +1,8 @@
 -- What is proved of the keys and the stored list besides the functions' contracts: proofs/Use.antt, Order.antt,
 -- Storing.antt and ReadBack.antt.
 -- Assumes nothing.
-use Rattle.std.specs.Prelude.{Bool, true, false, ◌≡◌, ℕ, ◌-◌, ◌≤◌, ◌<◌, length, get_or}
+use Rattle.std.specs.Prelude.{Bool, true, false, ◌≡◌, ℕ, ◌-◌, ◌≤◌, ◌<◌, length, get_or, if◌then◌else◌}
 use mathlib.Core.List.{List, [], ◌∷◌, ◌++◌, Permᴰ}
-use Rattle.laws.specs.Choice.{if◌then◌else◌}
 use Rattle.laws.specs.Lists.{All}
 use Rattle.account_keys.specs.Keys.{Valid, Sized, limit, zero_key, held, kept, member, without, used, owned, stored}
 use Rattle.account_keys.specs.StoredList.{stored_list_max, writing_under, writing, no_reading, reading_under, older_reading, reading}

@@ -1,9 +1,9 @@
 -- Document 01, "Stored list": how the account keys are written to memory that lasts, and read back; document 02 (vi): the list's two
 -- versions.
 -- Assumes nothing.
-use Rattle.std.specs.Prelude.{Bool, List, [], ◌∷◌, ◌++◌, ℕ, zero, suc, ◌+◌, ◌-◌, ◌*◌, leb, eqb, length, get_or}
+use Rattle.std.specs.Prelude.{Bool, List, [], ◌∷◌, ◌++◌, ℕ, zero, suc, ◌+◌, ◌-◌, ◌*◌, leb, eqb, length, get_or, if◌then◌else◌}
 use Rattle.laws.specs.BigEndian.{bytes, number2}
-use Rattle.laws.specs.Choice.{if◌then◌else◌, ◌and◌}
+use Rattle.laws.specs.Choice.{◌and◌}
 use Rattle.account_keys.specs.Keys.{limit, kept, owned}
 use Rattle.account_keys.specs.declared.AccountKey.{AccountKey}
 use Rattle.account_keys.specs.declared.ListForm.TheVariants.{WellFormed, Malformed}

@@ -9,8 +9,8 @@ use lib.ListN.{length, take, drop, length-append, length-drop, take-append-drop}
 use lib.Seq.{take_at, drop_at, length-take-le, paste}
 use borrow.Author.Tests.{leb-true}
 use borrow.Rule.Slice.PartMut.{mid_of, put_mid}
-use Rattle.laws.proofs.Choice.{and_left, and_right, if-holds}
-use Rattle.laws.proofs.Lists.{paste-at, take-drop-rest}
+use Rattle.laws.proofs.Choice.{and_left, and_right, if_holds}
+use Rattle.laws.proofs.Lists.{paste_at, take_drop_rest}
 use Rattle.laws.proofs.Parts.{part_read, part_written, part_copied}
 use Rattle.laws.specs.Choice.{◌and◌}
 use Rattle.basics.specs.Bytes.{same}
@@ -58,7 +58,7 @@ module _ (key nonce text o : List ℕ) (eight : length nonce ≡ 8) (room : 8 �
       simp append_assoc (drop_at (take 8 o) (nonce ++ (l ++ rest)) 8 (length-take-le 8 o room))
       in
       let joined : t ++ (nonce ++ (l ++ rest)) ≡ ((t ++ nonce) ++ l) ++ rest = simp append_assoc in
-      rw h (paste-at [] (laid l) t 0 8 refl h ∙ ap (λ (m : List ℕ). t ++ m) behind ∙ joined)
+      rw h (paste_at [] (laid l) t 0 8 refl h ∙ ap (λ (m : List ℕ). t ++ m) behind ∙ joined)
 
   -- m and n are the sizes of what is lent to the counter mode and for the tag
   pub packet_sealed : (m n : ℕ) → m ≡ length text → n ≡ 8 + length text → {x y p t w : List ℕ}
@@ -95,7 +95,7 @@ module _ (packet : List ℕ) where
     -- what the tag is made of, lent from its place to the end
     pub tag_compared : {t : List ℕ} {s : Bool} → packet_sized packet ≡ true → t ≡ tag key (mid_of 8 (length packet - 8) packet)
         → s ≡ same (take 8 packet) t → s ≡ (packet_sized packet and tag_fits key packet)
-    tag_compared e f g = rw (g, f, take-drop-rest 8 packet, e)
+    tag_compared e f g = rw (g, f, take_drop_rest 8 packet, e)
 
     pub opened_none : {n : Name} → (packet_sized packet and tag_fits key packet) ≡ false → n ≡ no_name
         → record { good = false; name = n } ≡ opened key packet
@@ -112,9 +112,9 @@ module _ (packet : List ℕ) where
       (length (mid_of 16 (length packet - 16) packet))) where
     pub data_copied : take (length packet - 16) y ≡ drop 16 packet
     data_copied =
-        let all : mid_of 16 (length packet - 16) packet ≡ drop 16 packet = take-drop-rest 16 packet in
+        let all : mid_of 16 (length packet - 16) packet ≡ drop 16 packet = take_drop_rest 16 packet in
         let y-is : y ≡ drop 16 packet ++ drop (length packet - 16) z =
-        copied ∙ rw (all, length-drop 16 packet) (paste-at [] z (drop 16 packet) 0 (length packet - 16) refl (length-drop 16 packet))
+        copied ∙ rw (all, length-drop 16 packet) (paste_at [] z (drop 16 packet) 0 (length packet - 16) refl (length-drop 16 packet))
         in
         rw y-is (take_at (drop 16 packet) (drop (length packet - 16) z) (length packet - 16) (length-drop 16 packet))
 
@@ -132,5 +132,5 @@ module _ (packet : List ℕ) where
 pub opened_valid : (key packet : List ℕ) → Valid (opened key packet).name
 unfolding opened
 opened_valid key packet =
-    if-holds (λ (r : NameReading). Valid r.name) (packet_sized packet and tag_fits key packet)
+    if_holds (λ (r : NameReading). Valid r.name) (packet_sized packet and tag_fits key packet)
     (reading_valid (counter_mode key (nonce_in packet) (drop 16 packet))) (λ e. no_name_valid)

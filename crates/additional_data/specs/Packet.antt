@@ -1,7 +1,7 @@
 -- Document 02 (i): the packet that carries a name.
 -- Assumes nothing.
-use Rattle.std.specs.Prelude.{Bool, List, ◌++◌, ℕ, ◌+◌, leb, length, take, drop, replicate}
-use Rattle.laws.specs.Choice.{if◌then◌else◌, ◌and◌}
+use Rattle.std.specs.Prelude.{Bool, List, ◌++◌, ℕ, ◌+◌, leb, length, take, drop, replicate, if◌then◌else◌}
+use Rattle.laws.specs.Choice.{◌and◌}
 use Rattle.additional_data.specs.CounterMode.{counter_mode}
 use Rattle.basics.specs.Bytes.{same}
 use Rattle.hmac_sha256.specs.Hmac.{hmac}

@@ -12,7 +12,7 @@ use lib.Pow.{pow-lt}
 use lib.Seq.{take_all, get_or-take, length-take-le, sets-eq, take_at, paste}
 use Rattle.laws.proofs.Filled.{get_d_tabulate, tabulate_get_or}
 use Rattle.laws.proofs.Folds.{fold_more, fold_keeps}
-use Rattle.laws.proofs.Lists.{take-set-more, drop-replicate}
+use Rattle.laws.proofs.Lists.{take_set_more, drop_replicate}
 use Rattle.account_keys.specs.Keys.{Kept, limit, held}
 use Rattle.account_keys.specs.declared.AccountKey.{AccountKey}
 use Rattle.account_keys.specs.declared.AccountKeys.{AccountKeys}
@@ -23,7 +23,7 @@ use Rattle.account_keys.proofs.Laws.{absent_key, take_held, count_held}
 -- a turn of the loop that clears
 pub clear_more : (l : List ℕ) (i : ℕ) → i < length l → take i l ≡ replicate i 0
     → take (i + 1) (set l i 0) ≡ replicate (i + 1) 0
-clear_more l i h e = rw (take-set-more l i 0 h, e) (replicate-append-replicate i 1 0)
+clear_more l i h e = rw (take_set_more l i 0 h, e) (replicate-append-replicate i 1 0)
 
 -- the message that is hashed
 pub key_and_salt : (key salt : List ℕ) → length key ≡ 16 → length salt ≡ 2
@@ -116,4 +116,4 @@ unfolding kept_filter
 kept_built ks v salt {p} {s} size e =
     let long : s ≡ length (filter (held ks) salt) = size ∙ ap filter_size (count_held ks v) ∙ sym
     (length_filter (held ks) salt) in
-    rw (e, drop-replicate {A = ℕ} s filter_max 0, long)
+    rw (e, drop_replicate {A = ℕ} s filter_max 0, long)

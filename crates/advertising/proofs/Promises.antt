@@ -7,7 +7,7 @@ use native.Mathlib.Omega.{arith}
 use lib.Bits.{bit_or}
 use lib.ListN.{length, take, get_or, replicate, length-replicate}
 use lib.Seq.{get_or-set_same}
-use Rattle.laws.proofs.All.{all-implies}
+use Rattle.laws.proofs.All.{all_implies}
 use Rattle.laws.proofs.Folds.{fold_keeps, fold_all, fold_fold, fold_order}
 use Rattle.laws.proofs.Or.{or_sets_bit, set_or_keeps_bit, set_or_comm}
 use Rattle.laws.proofs.Padded.{take_padded, length_padded}
@@ -50,7 +50,7 @@ module _ (s : ℕ) (some : 0 < s) where
     key-keeps : (f : List ℕ) (k other : AccountKey) → HasKey f k → HasKey (with_key s salt f other) k
     unfolding with_key
     key-keeps f k other h =
-        all-implies (λ x. HasBit f (place_of s x)) (λ x. HasBit (with_key s salt f other) (place_of s x))
+        all_implies (λ x. HasBit f (place_of s x)) (λ x. HasBit (with_key s salt f other) (place_of s x))
         (λ x p. fold_keeps (with_number s) (λ g. HasBit g (place_of s x))
         (λ g y. number-keeps g (place_of s x) y) f
         (numbers (sha256 (other.bytes ++ salt))) p) (numbers (sha256 (k.bytes ++ salt))) h

@@ -10,7 +10,7 @@ use lib.ListN.{length, take, drop, set, get_or, length-append, length-set}
 use lib.Seq.{sets, paste, length-take-le}
 use borrow.Author.Tests.{eq-eqb, ne_eqb}
 use Rattle.laws.proofs.Filled.{tabulate_get_or}
-use Rattle.laws.proofs.Lists.{sets-paste}
+use Rattle.laws.proofs.Lists.{sets_paste}
 use Rattle.laws.proofs.Front.{front_sets, front_paste}
 use Rattle.advertising.specs.Filter.{filter_size}
 use Rattle.advertising.specs.Payload.{prompt_type, keys_data, service_data, structure, payload_with}
@@ -48,7 +48,7 @@ length_copied o x y a b e h = h ∙ simp length-set e
 pub salt_stored : (l salt : List ℕ) (at : ℕ) → length salt ≡ 2 → at + 3 ≤ length l
     → set (set (set l at 0x21) (at + 1) (get_or salt 0 0)) (at + 2) (get_or salt 1 0) ≡ paste l at (0x21 ∷ salt) 3
 salt_stored l salt at two h =
-    rw (add-one, add-two) (sets-paste l at (0x21 ∷ get_or salt 0 0 ∷ get_or salt 1 0 ∷ []) h
+    rw (add-one, add-two) (sets_paste l at (0x21 ∷ get_or salt 0 0 ∷ get_or salt 1 0 ∷ []) h
     ∙ ap (λ (v : List ℕ). paste l at (0x21 ∷ v) 3) (tabulate_get_or 2 salt 0 two))
 
 -- the first s bytes of a kept filter, the salt and the output

@@ -1,7 +1,6 @@
 -- Document 02 (v), "Keep the filter instead of building it": what the advertisement shows, with the filter among it.
 -- Assumes nothing.
-use Rattle.std.specs.Prelude.{Bool, false, List, ◌≡◌, ℕ, take, replicate}
-use Rattle.laws.specs.Choice.{if◌then◌else◌}
+use Rattle.std.specs.Prelude.{Bool, false, List, ◌≡◌, ℕ, take, replicate, if◌then◌else◌}
 use Rattle.account_keys.specs.declared.AccountKey.{AccountKey}
 use Rattle.advertising.specs.Filter.{filter_size, filter_max, kept_filter}
 use Rattle.advertising.specs.Payload.{payload_with}

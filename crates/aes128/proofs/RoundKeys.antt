@@ -10,7 +10,7 @@ use lib.Dec.{lit≤}
 use lib.ListN.{length, get_or, set, replicate, get_or-map}
 use Rattle.laws.specs.BigEndian.{bytes}
 use Rattle.laws.proofs.Filled.{Filled, filled_set}
-use Rattle.laws.proofs.Lists.{map_set, getD-within}
+use Rattle.laws.proofs.Lists.{map_set, get_or_within}
 use Rattle.aes128.specs.Cipher.{key_expansion}
 use Rattle.aes128.specs.Field.{◌⊕◌, x_times}
 use Rattle.aes128.specs.KeyExpansion.{rot_word, sub_word, xor_word, x_power, rcon, word, round_key}
@@ -44,7 +44,7 @@ zeros = record { w0 = 0; w1 = 0; w2 = 0; w3 = 0 }
 
 -- a round key's block, where the code reads the key
 block_at : (ks : List Columns) (i : ℕ) → i < length (map block_of ks) → block_of (get_or ks i zeros) ≡ get_or (map block_of ks) i []
-block_at ks i h = sym (get_or-map block_of ks i zeros) ∙ getD-within (map block_of ks) i (block_of zeros) [] h
+block_at ks i h = sym (get_or-map block_of ks i zeros) ∙ get_or_within (map block_of ks) i (block_of zeros) [] h
 
 -- the same, where the schedule is whole
 pub key_at_lem : (key : List ℕ) (ks : List Columns) (i : ℕ) → map block_of ks ≡ key_expansion key → i < 11

@@ -1,7 +1,6 @@
 -- What a function does with an output that the caller lends: all of a text, or nothing.
 -- Assumes nothing.
-use Rattle.std.specs.Prelude.{List, ◌++◌, ℕ, leb, length, drop}
-use Rattle.laws.specs.Choice.{if◌then◌else◌}
+use Rattle.std.specs.Prelude.{List, ◌++◌, ℕ, leb, length, drop, if◌then◌else◌}
 use Rattle.basics.specs.declared.Answer.TheVariants.{Taken, OutputTooShort}
 use Rattle.basics.specs.declared.Report.{Report}
 

@@ -3,8 +3,7 @@
 // passes a slice as a pointer and a length, and an array as a pointer.
 #![tactic(auto)]
 
-ghost use Rattle.std.specs.Prelude.{◌++◌, ◌≡◌, drop};
-ghost use Rattle.laws.specs.Choice.{if◌then◌else◌};
+ghost use Rattle.std.specs.Prelude.{◌++◌, ◌≡◌, drop, if◌then◌else◌};
 ghost use Rattle.additional_data.specs.Packet.{sealed, packet_size, opened};
 ghost use Rattle.names.specs.Name.{reading, text_of};
 ghost use Rattle.sha256.specs.Hash.{sha256};

@@ -21,7 +21,7 @@ use Rattle.packed.specs.declared.FpOutcome.{FpOutcome}
 use Rattle.packed.specs.declared.FpReply.{FpReply}
 use Rattle.laws.proofs.Choice.{true_is}
 use Rattle.laws.proofs.Padded.{take_padded}
-use Rattle.laws.specs.Choice.{if◌then◌else◌}
+use Rattle.std.specs.Prelude.{if◌then◌else◌}
 use Rattle.names.specs.Name.{text_of}
 use Rattle.provider.proofs.Theorems.Gap.{gap_only_takes_away}
 use Rattle.provider.proofs.Theorems.KeptFilter.{filter_kept}

@@ -1,7 +1,6 @@
 -- What a call from C gives back: the step of provider's rules on the device handed in, or a refusal where that is none.
 -- Assumes nothing.
-use Rattle.std.specs.Prelude.{false, List, ℕ, eqb, replicate}
-use Rattle.laws.specs.Choice.{if◌then◌else◌}
+use Rattle.std.specs.Prelude.{false, List, ℕ, eqb, replicate, if◌then◌else◌}
 use Rattle.advertising.specs.declared.Prompt.{Prompt}
 use Rattle.advertising.specs.declared.Prompt.TheVariants.{Show, Hide}
 use Rattle.basics.specs.Output.{report_of, placed}

@@ -8,7 +8,7 @@ use lib.Dec.{leb}
 use lib.ListN.{length}
 use lib.Seq.{paste}
 use borrow.Author.Tests.{leb-true}
-use Rattle.laws.specs.Choice.{if◌then◌else◌}
+use Rattle.std.specs.Prelude.{if◌then◌else◌}
 use Rattle.replay.specs.declared.Line.{Line}
 use Rattle.replay_text.specs.Text.{text}
 use Rattle.fp_replay.specs.Reading.{Output, line_place, printed}

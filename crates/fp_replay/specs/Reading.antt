@@ -1,8 +1,7 @@
 -- What the program makes of the parts that it reads: the stream behind them, and the lines in its output buffer.
 -- Assumes nothing.
-use Rattle.std.specs.Prelude.{List, [], ◌∷◌, ℕ, ◌+◌, leb, length}
+use Rattle.std.specs.Prelude.{List, [], ◌∷◌, ℕ, ◌+◌, leb, length, if◌then◌else◌}
 use Rattle.std.proofs.Math.Seq.{paste}
-use Rattle.laws.specs.Choice.{if◌then◌else◌}
 use Rattle.replay.specs.Parts.{ended}
 use Rattle.replay.specs.Promises.{fed_part, line_of}
 use Rattle.replay.specs.declared.Line.{Line}

@@ -5,7 +5,8 @@ use mathlib.Core.Path.{◌≡◌, refl}
 use lib.Dec.{eqb}
 use lib.ListN.{get_or}
 use Rattle.laws.proofs.Choice.{true_is}
-use Rattle.laws.specs.Choice.{if◌then◌else◌, ◌and◌, ◌or◌}
+use Rattle.laws.specs.Choice.{◌and◌, ◌or◌}
+use Rattle.std.specs.Prelude.{if◌then◌else◌}
 use Rattle.basics.specs.Bytes.{same}
 use Rattle.key_based.specs.Named.{address_bytes, address_named, fits}
 use Rattle.key_based.specs.Promises.{FitsByAddress, EqualIsBle}

@@ -24,7 +24,7 @@ use Rattle.key_based.specs.declared.Context.{Context}
 use Rattle.key_based.specs.declared.Decision.{Decision}
 use Rattle.key_based.specs.declared.Element.{Element}
 use Rattle.key_based.specs.declared.Search.{Search}
-use Rattle.laws.specs.Choice.{if◌then◌else◌}
+use Rattle.std.specs.Prelude.{if◌then◌else◌}
 use Rattle.request_guard.specs.Guard as guards
 use Rattle.request_guard.specs.Guard.{Proper, Valid, failed_at}
 use Rattle.request_guard.specs.declared.Guard.{Guard}

@@ -7,7 +7,7 @@ use Prim.Native.Nat.{ℕ, zero, suc, ◌+◌, ◌-◌, ◌<◌}
 use native.Mathlib.Nat.{le_of_suc-le-suc, not-suc-le-zero}
 use native.Mathlib.Omega.{arith}
 use lib.ListN.{length, get_or, length-map, get_or-map}
-use Rattle.laws.specs.Choice.{if◌then◌else◌}
+use Rattle.std.specs.Prelude.{if◌then◌else◌}
 use Rattle.key_based.specs.Promises.{NoneOf, Tells, FirstThatFits}
 use Rattle.key_based.specs.Named.{fits, fitting}
 use Rattle.key_based.specs.Request.{candidates, has_public_key, opened, Found, found, nothing, search}
@@ -17,7 +17,7 @@ use Rattle.account_keys.specs.Keys.{zero_key}
 use Rattle.account_keys.specs.declared.AccountKey.{AccountKey}
 use Rattle.basics.specs.declared.Address.{Address}
 use Rattle.laws.proofs.Choice.{true_is}
-use Rattle.laws.proofs.Lists.{getD-within}
+use Rattle.laws.proofs.Lists.{get_or_within}
 
 -- a place further back
 abbrev shifted : Found → Found
@@ -85,7 +85,7 @@ module _ (ble public : Address) (keys : List AccountKey) (element : Element) (re
           let small : n - 1 < length keys = omega (arith, t.0, t.1, length-map keys (λ (k : AccountKey). k.bytes)) in
           record {
             within = small;
-            there = ap (λ (k : AccountKey). k.bytes) (getD-within keys (n - 1) zero_key (record { bytes = [] }) small)
+            there = ap (λ (k : AccountKey). k.bytes) (get_or_within keys (n - 1) zero_key (record { bytes = [] }) small)
                 ∙ sym (get_or-map (λ (k : AccountKey). k.bytes) keys (n - 1) (record { bytes = [] })) ∙ t.2;
           }
       go (nothing n) t f = absurd (true_is f)

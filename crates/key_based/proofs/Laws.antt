@@ -13,7 +13,7 @@ use lib.Seq.{take_all, take-take}
 use borrow.Author.Tests.{eq-eqb, ne_eqb, eqb-true}
 use Rattle.laws.proofs.Choice.{true_is}
 use Rattle.laws.proofs.Filled.{tabulate_get_or}
-use Rattle.laws.proofs.Lists.{drop-take-more, drop-take-all}
+use Rattle.laws.proofs.Lists.{drop_take_more, drop_take_all}
 use Rattle.laws.specs.Tabulate.{tabulate}
 use Rattle.account_keys.specs.Keys.{Kept, held}
 use Rattle.account_keys.specs.declared.AccountKey.{AccountKey}
@@ -140,7 +140,7 @@ module _ (ble public : Address) (r : List ℕ) where
         (blocks (held ks))
     next-key h =
         let inside : ks.count ≤ length ks.keys = omega (arith, v.few, length_keys ks v) in
-        (rw (drop-take-more ks.keys ks.count i absent_key h inside)) ∙ p
+        (rw (drop_take_more ks.keys ks.count i absent_key h inside)) ∙ p
 
     -- it fits
     pub key_fits : {a : Search} → i < ks.count
@@ -163,7 +163,7 @@ module _ (ble public : Address) (r : List ℕ) where
     pub all_passed : {a : Search} → ks.count ≤ i → a ≡ none_fits i
         → a ≡ handed_over ble public r (tried ble public r 0 (blocks (held ks)))
     all_passed h e =
-        e ∙ ap (handed_over ble public r) (sym (none_left i) ∙ rw (drop-take-all ks.keys ks.count i h) at p)
+        e ∙ ap (handed_over ble public r) (sym (none_left i) ∙ rw (drop_take_all ks.keys ks.count i h) at p)
 
 -- ---- the candidates of a request
 

@@ -1,8 +1,8 @@
 -- Document 01, "Key-based write": answers 5 to 8, what an accepted request changes, and its response; document 02: the packet with the
 -- name (i), the key that is used (ii), answer 16 and the address that was named (vii).
 -- Assumes nothing.
-use Rattle.std.specs.Prelude.{Bool, false, not, List, [], ◌∷◌, ◌++◌, ℕ, drop}
-use Rattle.laws.specs.Choice.{if◌then◌else◌, ◌and◌}
+use Rattle.std.specs.Prelude.{Bool, false, not, List, [], ◌∷◌, ◌++◌, ℕ, drop, if◌then◌else◌}
+use Rattle.laws.specs.Choice.{◌and◌}
 use Rattle.account_keys.specs.Keys.{held, kept, used}
 use Rattle.account_keys.specs.declared.AccountKeys.{AccountKeys}
 use Rattle.basics.specs.Answers.{is_taken}

@@ -1,7 +1,6 @@
 -- Document 02 (vii), "Which address did it name?": what the fitting test says of a decrypted request.
 -- Assumes nothing.
-use Rattle.std.specs.Prelude.{Bool, true, false, not, List, ℕ, eqb, take, drop, get_or}
-use Rattle.laws.specs.Choice.{if◌then◌else◌}
+use Rattle.std.specs.Prelude.{Bool, true, false, not, List, ℕ, eqb, take, drop, get_or, if◌then◌else◌}
 use Rattle.basics.specs.Bytes.{same}
 use Rattle.basics.specs.declared.Address.{Address}
 use Rattle.key_based.specs.declared.named.Named.{Named}

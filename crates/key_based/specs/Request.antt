@@ -1,9 +1,9 @@
 -- Document 01, "Key-based write": the keys that are tried, the block as a key opens it, and the response. Which address it names is
 -- `Named`'s.
 -- Assumes nothing.
-use Rattle.std.specs.Prelude.{Bool, true, false, not, List, [], ◌∷◌, ◌++◌, map, ℕ, ◌+◌, ◌-◌, eqb, length, take, drop, get_or, replicate}
+use Rattle.std.specs.Prelude.{Bool, true, false, not, List, [], ◌∷◌, ◌++◌, map, ℕ, ◌+◌, ◌-◌, eqb, length, take, drop, get_or, replicate, if◌then◌else◌}
 use Rattle.std.specs.Int.Bits.{bit_and}
-use Rattle.laws.specs.Choice.{if◌then◌else◌, ◌or◌}
+use Rattle.laws.specs.Choice.{◌or◌}
 use Rattle.account_keys.specs.declared.AccountKey.{AccountKey}
 use Rattle.aes128.specs.Cipher.{cipher, inv_cipher}
 use Rattle.basics.specs.declared.Address.{Address}

@@ -46,9 +46,9 @@ module _ {ℓ} {A : Type ℓ} (P : A → Type 0) where
   all_append [] b p q = q
   all_append (x ∷ xs) b p q = (p.0, all_append xs b p.1 q)
 
-pub all-implies {ℓ} : {A : Type ℓ} (P Q : A → Type 0) → ((a : A) → P a → Q a) → (l : List A) → All P l → All Q l
-all-implies P Q f [] p = tt
-all-implies P Q f (x ∷ xs) p = (f x p.0, all-implies P Q f xs p.1)
+pub all_implies {ℓ} : {A : Type ℓ} (P Q : A → Type 0) → ((a : A) → P a → Q a) → (l : List A) → All P l → All Q l
+all_implies P Q f [] p = tt
+all_implies P Q f (x ∷ xs) p = (f x p.0, all_implies P Q f xs p.1)
 
 pub all_tabulate : {A : Type 0} (P : A → Type 0) (n : ℕ) (f : ℕ → A) → ((i : ℕ) → P (f i)) → All P (tabulate n f)
 all_tabulate P zero f p = tt

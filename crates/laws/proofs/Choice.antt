@@ -4,7 +4,8 @@ use mathlib.Core.Bool.{Bool, true, false, not}
 use mathlib.Core.Path.{◌≡◌, refl, subst, sym, ◌∙◌}
 use lib.Dec.{T}
 use borrow.Author.Tests.{not-true, not-false}
-use Rattle.laws.specs.Choice.{if◌then◌else◌, ◌and◌, ◌or◌}
+use Rattle.laws.specs.Choice.{◌and◌, ◌or◌}
+use Rattle.std.specs.Prelude.{if◌then◌else◌}
 
 pub true_is : {b : Bool} → b ≡ true → T b
 true_is e = subst T (sym e) tt
@@ -14,15 +15,15 @@ is_true true t = refl
 is_true false t = absurd t
 
 -- what holds of both branches holds of the choice; the second is only taken if the test fails
-pub if-holds {ℓ} : {A : Type ℓ} (P : A → Type 0) (b : Bool) {x y : A} → P x → (b ≡ false → P y) → P
+pub if_holds : {A : Type 0} (P : A → Type 0) (b : Bool) {x y : A} → P x → (b ≡ false → P y) → P
     (if b then x else y)
-if-holds P true p q = p
-if-holds P false p q = q refl
+if_holds P true p q = p
+if_holds P false p q = q refl
 
 -- a choice whose first branch, where it is taken, is the second
-pub if-same {ℓ} : {A : Type ℓ} (b : Bool) {x y : A} → (b ≡ true → x ≡ y) → (if b then x else y) ≡ y
-if-same true e = e refl
-if-same false e = refl
+pub if_same : {A : Type 0} (b : Bool) {x y : A} → (b ≡ true → x ≡ y) → (if b then x else y) ≡ y
+if_same true e = e refl
+if_same false e = refl
 
 pub or_left : (a b : Bool) → a ≡ true → (a or b) ≡ true
 or_left true b e = refl

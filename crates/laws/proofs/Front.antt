@@ -6,7 +6,7 @@ use Prim.Native.Nat.{ℕ, ◌+◌, ◌-◌, ◌≤◌}
 use native.Mathlib.Omega.{arith}
 use lib.ListN.{length, take, drop, length-append, length-drop}
 use lib.Seq.{paste, sets, sets-eq, take-append_seam, drop-append-add, drop-drop}
-use Rattle.laws.proofs.Lists.{paste-at}
+use Rattle.laws.proofs.Lists.{paste_at}
 
 module _ {A : Type 0} (o a : List A) {x : List A} (e : x ≡ a ++ drop (length a) o) where
   drop_behind : (n : ℕ) → drop (length a + n) x ≡ drop (length a + n) o
@@ -25,5 +25,5 @@ module _ {A : Type 0} (o a : List A) {x : List A} (e : x ≡ a ++ drop (length a
   pub front_paste : (s : List A) (n : ℕ) → length s ≡ n → paste x (length a) s n ≡ (a ++ s) ++ drop
       (length (a ++ s)) o
   front_paste s n h =
-      ap (λ (l : List A). paste l (length a) s n) e ∙ paste-at a (drop (length a) o) s (length a) n refl h
+      ap (λ (l : List A). paste l (length a) s n) e ∙ paste_at a (drop (length a) o) s (length a) n refl h
       ∙ rw (drop-drop n (length a) o, length-append a s, h)

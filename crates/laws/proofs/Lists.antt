@@ -10,9 +10,9 @@ use lib.ListN.{length, take, drop, set, get_or, replicate, length-drop, length-t
 use lib.Seq.{get_or_at, set_at, append_snoc, set-get_or, take_at, drop-append-add, length-take-le, get_or-take, take-suc, drop-cons, get_or-drop, take-suc-set, take_all, take-length, sets, sets-eq, paste, paste-suc}
 
 -- a turn of a loop that fills a list from the front
-pub take-set-more {ℓ} : {A : Type ℓ} (l : List A) (i : ℕ) (a : A) → i < length l → take (i + 1) (set l i a)
+pub take_set_more {ℓ} : {A : Type ℓ} (l : List A) (i : ℕ) (a : A) → i < length l → take (i + 1) (set l i a)
     ≡ take i l ++ (a ∷ [])
-take-set-more l i a h = rw (add-one, take-suc-set l i a h)
+take_set_more l i a h = rw (add-one, take-suc-set l i a h)
 
 -- a turn of a loop that copies s into d from at on
 pub paste_more {ℓ} : {A : Type ℓ} (d : List A) (at : ℕ) (s : List A) (i : ℕ) (z : A) {l : List A} → l
@@ -20,14 +20,14 @@ pub paste_more {ℓ} : {A : Type ℓ} (d : List A) (at : ℕ) (s : List A) (i : 
     → at + i < length d → i < length s → set l (at + i) (get_or s i z) ≡ paste d at s (i + 1)
 paste_more d at s i z e h k = rw (e, paste-suc d at s i z h k, add-one)
 
-pub drop-replicate {ℓ} : {A : Type ℓ} (k n : ℕ) (a : A) → drop k (replicate n a) ≡ replicate (n - k) a
-drop-replicate zero n a = rw sub-zero
-drop-replicate (suc k) zero a = rw zero-sub
-drop-replicate (suc k) (suc n) a = drop-replicate k n a ∙ rw suc-sub-suc
+pub drop_replicate {ℓ} : {A : Type ℓ} (k n : ℕ) (a : A) → drop k (replicate n a) ≡ replicate (n - k) a
+drop_replicate zero n a = rw sub-zero
+drop_replicate (suc k) zero a = rw zero-sub
+drop_replicate (suc k) (suc n) a = drop_replicate k n a ∙ rw suc-sub-suc
 
 -- a part that is lent from a place to the end
-pub take-drop-rest {ℓ} : {A : Type ℓ} (k : ℕ) (l : List A) → take (length l - k) (drop k l) ≡ drop k l
-take-drop-rest k l = take_all (length l - k) (drop k l) (simp length-drop (le_refl (length l - k)))
+pub take_drop_rest {ℓ} : {A : Type ℓ} (k : ℕ) (l : List A) → take (length l - k) (drop k l) ≡ drop k l
+take_drop_rest k l = take_all (length l - k) (drop k l) (simp length-drop (le_refl (length l - k)))
 
 -- one element more of what is left
 pub drop_more {ℓ} : {A : Type ℓ} (l : List A) (i : ℕ) (z : A) → i < length l → drop i l ≡ get_or l i z ∷ drop
@@ -40,47 +40,47 @@ pub copy_more {ℓ} : {A : Type ℓ} (l s : List A) (at i : ℕ) (z : A) → tak
     → at + i < length s → take (i + 1) (set l i (get_or s (at + i) z)) ≡ take (i + 1) (drop at s)
 copy_more l s at i z e h k =
     let inside : i < length (drop at s) = simp length-drop (omega arith) in
-    rw (take-set-more l i (get_or s (at + i) z) h, e, add-one, take-suc (drop at s) i z inside, get_or-drop at s i z)
+    rw (take_set_more l i (get_or s (at + i) z) h, e, add-one, take-suc (drop at s) i z inside, get_or-drop at s i z)
 
 -- what is left of the first n elements
-pub drop-take-more {ℓ} : {A : Type ℓ} (l : List A) (n i : ℕ) (z : A) → i < n → n ≤ length l
+pub drop_take_more {ℓ} : {A : Type ℓ} (l : List A) (n i : ℕ) (z : A) → i < n → n ≤ length l
     → drop i (take n l) ≡ get_or l i z ∷ drop (i + 1) (take n l)
-drop-take-more l n i z h k =
+drop_take_more l n i z h k =
     let inside : i < length (take n l) = rw (length-take-le n l k) h in
     drop_more (take n l) i z inside ∙ rw (get_or-take n l i z h)
 
-pub drop-take-all {ℓ} : {A : Type ℓ} (l : List A) (n i : ℕ) → n ≤ i → drop i (take n l) ≡ []
-drop-take-all l n i h =
+pub drop_take_all {ℓ} : {A : Type ℓ} (l : List A) (n i : ℕ) → n ≤ i → drop i (take n l) ≡ []
+drop_take_all l n i h =
     let short : length (take n l) ≤ i = simp length-take (omega arith) in
     drop_of_length-le (take n l) short
 
 -- a copy that begins where a known front ends
-pub paste-at {ℓ} : {A : Type ℓ} (a b s : List A) (at n : ℕ) → length a ≡ at → length s ≡ n
+pub paste_at {ℓ} : {A : Type ℓ} (a b s : List A) (at n : ℕ) → length a ≡ at → length s ≡ n
     → paste (a ++ b) at s n ≡ a ++ s ++ drop n b
-paste-at a b s at n p q =
+paste_at a b s at n p q =
     let all : take n s ≡ s = take_all n s (omega arith) in
     let rest : drop (at + n) (a ++ b) ≡ drop n b = rw (← p) (drop-append-add a b n) in
     rw (take_at a b at p, all, rest)
 
 -- stores in a row copy a list
-pub sets-paste {ℓ} : {A : Type ℓ} (l : List A) (at : ℕ) (vs : List A) → at + length vs ≤ length l
+pub sets_paste {ℓ} : {A : Type ℓ} (l : List A) (at : ℕ) (vs : List A) → at + length vs ≤ length l
     → sets l at vs ≡ paste l at vs (length vs)
-sets-paste l at vs h = sets-eq vs l at h ∙ rw (take-length vs)
+sets_paste l at vs h = sets-eq vs l at h ∙ rw (take-length vs)
 
 -- four stores at the front
-pub set4-front {ℓ} : {A : Type ℓ} (l : List A) (a b c d : A) → 4 ≤ length l
+pub set4_front {ℓ} : {A : Type ℓ} (l : List A) (a b c d : A) → 4 ≤ length l
     → set (set (set (set l 0 a) 1 b) 2 c) 3 d ≡ a ∷ b ∷ c ∷ d ∷ drop 4 l
-set4-front [] a b c d h = absurd (not-suc-le-zero h)
-set4-front (w ∷ []) a b c d h = absurd (not-suc-le-zero (le_of_suc-le-suc h))
-set4-front (w ∷ x ∷ []) a b c d h = absurd (not-suc-le-zero (le_of_suc-le-suc (le_of_suc-le-suc h)))
-set4-front (w ∷ x ∷ y ∷ []) a b c d h =
+set4_front [] a b c d h = absurd (not-suc-le-zero h)
+set4_front (w ∷ []) a b c d h = absurd (not-suc-le-zero (le_of_suc-le-suc h))
+set4_front (w ∷ x ∷ []) a b c d h = absurd (not-suc-le-zero (le_of_suc-le-suc (le_of_suc-le-suc h)))
+set4_front (w ∷ x ∷ y ∷ []) a b c d h =
     absurd (not-suc-le-zero (le_of_suc-le-suc (le_of_suc-le-suc (le_of_suc-le-suc h))))
-set4-front (w ∷ x ∷ y ∷ z ∷ l) a b c d h = refl
+set4_front (w ∷ x ∷ y ∷ z ∷ l) a b c d h = refl
 
-pub getD4-front {ℓ} : {A : Type ℓ} (l : List A) (z : A) → 4 ≤ length l
+pub get_or4_front {ℓ} : {A : Type ℓ} (l : List A) (z : A) → 4 ≤ length l
     → l ≡ get_or l 0 z ∷ get_or l 1 z ∷ get_or l 2 z ∷ get_or l 3 z ∷ drop 4 l
-getD4-front l z h =
-    let e = set4-front l (get_or l 0 z) (get_or l 1 z) (get_or l 2 z) (get_or l 3 z) h in
+get_or4_front l z h =
+    let e = set4_front l (get_or l 0 z) (get_or l 1 z) (get_or l 2 z) (get_or l 3 z) h in
     rw (set-get_or l 0 z, set-get_or l 1 z, set-get_or l 2 z, set-get_or l 3 z) at e
 
 pub map_set : {A B : Type 0} (f : A → B) (l : List A) (i : ℕ) (a : A) → map f (set l i a) ≡ set (map f l) i (f a)
@@ -110,7 +110,7 @@ map_take_all f l n e =
     rw (take_all n l (omega arith), drop_of_length-le l {i = n} (omega arith), append-nil (map f l))
 
 -- within the list it does not matter what stands past its end
-pub getD-within {ℓ} : {A : Type ℓ} (l : List A) (i : ℕ) (y z : A) → i < length l → get_or l i y ≡ get_or l i z
-getD-within [] i y z h = absurd (not-suc-le-zero h)
-getD-within (x ∷ xs) zero y z h = refl
-getD-within (x ∷ xs) (suc i) y z h = getD-within xs i y z (le_of_suc-le-suc h)
+pub get_or_within {ℓ} : {A : Type ℓ} (l : List A) (i : ℕ) (y z : A) → i < length l → get_or l i y ≡ get_or l i z
+get_or_within [] i y z h = absurd (not-suc-le-zero h)
+get_or_within (x ∷ xs) zero y z h = refl
+get_or_within (x ∷ xs) (suc i) y z h = get_or_within xs i y z (le_of_suc-le-suc h)

@@ -10,7 +10,7 @@ use lib.Seq.{set_at, append_snoc, take-append_seam, take_all, length-take-le, ge
 use Rattle.laws.specs.Lists.{padded}
 use Rattle.laws.specs.Tabulate.{tabulate}
 use Rattle.laws.proofs.Filled.{length_tabulate, tabulate_more}
-use Rattle.laws.proofs.Lists.{paste-at, paste_more, drop-replicate}
+use Rattle.laws.proofs.Lists.{paste_at, paste_more, drop_replicate}
 
 module _ {ℓ} {A : Type ℓ} (n : ℕ) (z : A) where
   pub length_padded : (l : List A) → length l ≤ n → length (padded n z l) ≡ n
@@ -38,8 +38,8 @@ module _ {ℓ} {A : Type ℓ} (n : ℕ) (z : A) where
       ≡ padded n z (l ++ s)
   paste_padded l s i e =
       let f : n - length l - length s ≡ n - length (l ++ s) = simp length-append (omega arith) in
-      paste-at l (replicate (n - length l) z) s i (length s) e refl
-      ∙ rw (drop-replicate (length s) (n - length l) z, f)
+      paste_at l (replicate (n - length l) z) s i (length s) e refl
+      ∙ rw (drop_replicate (length s) (n - length l) z, f)
 
   -- what a place that is not in use holds may count as in use
   pub padded_replicate : (l : List A) (k : ℕ) → length l + k ≤ n → padded n z (l ++ replicate k z) ≡ padded n z l
@@ -75,17 +75,17 @@ module _ {ℓ} {A : Type ℓ} (n : ℕ) (z : A) where
         let long : length (drop 1 l) ≡ n - 1 = simp length-drop (omega (arith, length_places)) in
         let full : take c l ≡ l = take_all c l (omega (arith, length_places)) in
         let at : 0 + (n - 1) ≡ n - 1 = omega arith in
-        rw (full, take_all (n - 1) (drop 1 l) (omega arith), long, at, drop-replicate (n - 1) n z)
+        rw (full, take_all (n - 1) (drop 1 l) (omega arith), long, at, drop_replicate (n - 1) n z)
 
     -- without the first there is room
     pub one_less_within : 0 < n → length (drop 1 (take c l)) < n
     one_less_within h = simp length-drop (omega (arith, length_in_use))
 
 -- a turn of a loop that copies l into d from its second place on
-pub paste-drop-more {ℓ} : {A : Type ℓ} (d l : List A) (i : ℕ) (z : A) {r : List A} → r ≡ paste d 0 (drop 1 l) i
+pub paste_drop_more {ℓ} : {A : Type ℓ} (d l : List A) (i : ℕ) (z : A) {r : List A} → r ≡ paste d 0 (drop 1 l) i
     → i < length d
     → i + 1 < length l → set r i (get_or l (i + 1) z) ≡ paste d 0 (drop 1 l) (i + 1)
-paste-drop-more d l i z {r} e h k =
+paste_drop_more d l i z {r} e h k =
     let inside : i < length (drop 1 l) = simp length-drop (omega arith) in
     let at : 1 + i ≡ i + 1 = omega arith in
     let value : get_or (drop 1 l) i z ≡ get_or l (i + 1) z = get_or-drop 1 l i z ∙ rw at in

@@ -6,7 +6,7 @@ use Prim.Native.Nat.{ℕ, ◌+◌}
 use lib.ListN.{length, drop}
 use lib.Seq.{take_at, drop_at, drop-drop, paste}
 use borrow.Rule.Slice.PartMut.{mid_of, put_mid}
-use Rattle.laws.proofs.Lists.{paste-at}
+use Rattle.laws.proofs.Lists.{paste_at}
 
 -- a part t, a before it and r behind it
 module _ {A : Type 0} (a t r : List A) (at n : ℕ) (p : length a ≡ at) (q : length t ≡ n) where
@@ -22,4 +22,4 @@ module _ {A : Type 0} (a t r : List A) (at n : ℕ) (p : length a ≡ at) (q : l
 pub part_copied : {A : Type 0} (o a s : List A) (at n : ℕ) {x : List A} → length a ≡ at → length s ≡ n → x ≡ a ++ drop at o
     → paste x at s n ≡ (a ++ s) ++ drop (at + n) o
 part_copied {A} o a s at n p q e =
-    ap (λ (l : List A). paste l at s n) e ∙ paste-at a (drop at o) s at n p q ∙ rw (drop-drop n at o)
+    ap (λ (l : List A). paste l at s n) e ∙ paste_at a (drop at o) s at n p q ∙ rw (drop-drop n at o)

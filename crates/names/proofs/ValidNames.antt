@@ -8,8 +8,8 @@ use native.Mathlib.Omega.{arith}
 use lib.Dec.{leb}
 use lib.ListN.{length}
 use borrow.Author.Tests.{le-leb, leb-true}
-use Rattle.laws.specs.Choice.{if◌then◌else◌}
-use Rattle.laws.proofs.Choice.{true_is, and_left, and_right, if-holds}
+use Rattle.std.specs.Prelude.{if◌then◌else◌}
+use Rattle.laws.proofs.Choice.{true_is, and_left, and_right, if_holds}
 use Rattle.laws.proofs.Padded.{take_padded}
 use Rattle.names.specs.Name.{is_name, text_of, name_of, no_name, not_a_name, reading, read_again, Valid}
 use Rattle.names.specs.Utf8.{is_utf8, continues}
@@ -52,7 +52,7 @@ good_reading l g = by-test (is_name l) refl g
 
 pub read_again_valid : (n : Name) → Valid (read_again n).name
 read_again_valid n =
-    if-holds (λ (r : NameReading). Valid r.name) (leb n.length 64) (reading_valid (text_of n)) (λ e. no_name_valid)
+    if_holds (λ (r : NameReading). Valid r.name) (leb n.length 64) (reading_valid (text_of n)) (λ e. no_name_valid)
 
 module _ {n : Name} (v : Valid n) where
   pub length_text : length (text_of n) ≡ n.length

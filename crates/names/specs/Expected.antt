@@ -1,7 +1,6 @@
 -- What is still to come of a character, as the code keeps it.
 -- Assumes nothing.
-use Rattle.std.specs.Prelude.{Bool, false, List, [], ◌∷◌, ℕ, zero, suc, replicate}
-use Rattle.laws.specs.Choice.{if◌then◌else◌}
+use Rattle.std.specs.Prelude.{Bool, false, List, [], ◌∷◌, ℕ, zero, suc, replicate, if◌then◌else◌}
 use Rattle.names.specs.Utf8.{Range, ◌to◌, tail}
 use Rattle.names.specs.declared.utf8.Expected.{Expected}
 

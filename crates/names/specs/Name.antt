@@ -1,7 +1,7 @@
 -- Document 02 (i): "Names are 0 to 64 bytes of valid UTF-8".
 -- Assumes nothing.
-use Rattle.std.specs.Prelude.{Bool, true, false, List, [], ◌≡◌, ℕ, ◌≤◌, leb, length, take}
-use Rattle.laws.specs.Choice.{if◌then◌else◌, ◌and◌}
+use Rattle.std.specs.Prelude.{Bool, true, false, List, [], ◌≡◌, ℕ, ◌≤◌, leb, length, take, if◌then◌else◌}
+use Rattle.laws.specs.Choice.{◌and◌}
 use Rattle.laws.specs.Lists.{padded}
 use Rattle.names.specs.Utf8.{is_utf8}
 use Rattle.names.specs.declared.Name.{Name}

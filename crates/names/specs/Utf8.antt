@@ -1,7 +1,7 @@
 -- RFC 3629, section 4: which byte strings are UTF-8.
 -- Assumes nothing.
-use Rattle.std.specs.Prelude.{Bool, true, false, List, [], ◌∷◌, ℕ, leb}
-use Rattle.laws.specs.Choice.{if◌then◌else◌, ◌and◌}
+use Rattle.std.specs.Prelude.{Bool, true, false, List, [], ◌∷◌, ℕ, leb, if◌then◌else◌}
+use Rattle.laws.specs.Choice.{◌and◌}
 
 -- the bytes from `low` to `high`
 pub record Range : Type 0 where

@@ -10,7 +10,7 @@ use lib.Dec.{leb, eqb}
 use lib.ListN.{length, drop, get_or}
 use borrow.Author.Tests.{le-leb, lt-leb, eq-eqb, ne_eqb}
 use Rattle.laws.proofs.All.{all_get}
-use Rattle.laws.proofs.Choice.{if-holds}
+use Rattle.laws.proofs.Choice.{if_holds}
 use Rattle.laws.proofs.Filled.{get_d_tabulate, tabulate_ext, tabulate_get_or}
 use Rattle.laws.proofs.Lists.{drop_more}
 use Rattle.laws.specs.Choice.{◌and◌}
@@ -128,9 +128,9 @@ stages_done (f ∷ fs) (suc i) h = stages_done fs i (le_of_suc-le-suc h)
 -- whatever number and fields were handed in
 pub session_canonical : (f : FpSession) → Canonical (session_of f)
 session_canonical f =
-    if-holds Canonical (eqb f.stage 1) (in_a_stage (held_in f Asked) refl)
-    (λ _. if-holds Canonical (eqb f.stage 2) (in_a_stage (held_in f Pairing) refl)
-    (λ _. if-holds Canonical (eqb f.stage 3) (in_a_stage (held_in f Confirming) refl)
-    (λ _. if-holds Canonical (eqb f.stage 4) (in_a_stage (held_in f Proved) refl)
-    (λ _. if-holds Canonical (eqb f.stage 5) (in_a_stage (held_in f Paired) refl)
+    if_holds Canonical (eqb f.stage 1) (in_a_stage (held_in f Asked) refl)
+    (λ _. if_holds Canonical (eqb f.stage 2) (in_a_stage (held_in f Pairing) refl)
+    (λ _. if_holds Canonical (eqb f.stage 3) (in_a_stage (held_in f Confirming) refl)
+    (λ _. if_holds Canonical (eqb f.stage 4) (in_a_stage (held_in f Proved) refl)
+    (λ _. if_holds Canonical (eqb f.stage 5) (in_a_stage (held_in f Paired) refl)
     (λ _. idle_holds_nothing)))))

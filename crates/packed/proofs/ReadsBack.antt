@@ -6,7 +6,8 @@ use lib.Dec.{leb, eqb}
 use lib.ListN.{get_or}
 use Rattle.laws.proofs.All.{all_tabulate}
 use Rattle.laws.proofs.Choice.{and_left, and_right}
-use Rattle.laws.specs.Choice.{if◌then◌else◌, ◌and◌}
+use Rattle.laws.specs.Choice.{◌and◌}
+use Rattle.std.specs.Prelude.{if◌then◌else◌}
 use Rattle.account_keys.specs.declared.Reading.{Reading}
 use Rattle.names.proofs.ValidNames.{read_again_valid, valid_reads_again}
 use Rattle.names.specs.Name.{read_again}

@@ -8,9 +8,9 @@ use native.Mathlib.Omega.{arith}
 use lib.Dec.{leb}
 use lib.ListN.{length, take, replicate}
 use borrow.Author.Tests.{le-leb}
-use Rattle.laws.proofs.Lists.{drop-replicate}
+use Rattle.laws.proofs.Lists.{drop_replicate}
 use Rattle.laws.proofs.Padded.{take_padded}
-use Rattle.laws.specs.Choice.{if◌then◌else◌}
+use Rattle.std.specs.Prelude.{if◌then◌else◌}
 use Rattle.laws.specs.Lists.{padded}
 use Rattle.account_keys.proofs.ReadBack.{writes_within_max, reads_back, reads_valid}
 use Rattle.account_keys.specs.Keys.{held}
@@ -41,7 +41,7 @@ list_packed ks v {r} {b} p q =
     let w : List ℕ = writing (held ks) in
     let fits : leb (length w) stored_list_max ≡ true = le-leb (length w) stored_list_max (writes_within_max ks v) in
     let size : r.length ≡ length w = ap (λ (x : Report). x.length) p ∙ rw fits in
-    let bytes : b ≡ padded stored_list_max 0 w = q ∙ rw fits (ap (λ l. w ++ l) (drop-replicate (length w) stored_list_max 0)) in
+    let bytes : b ≡ padded stored_list_max 0 w = q ∙ rw fits (ap (λ l. w ++ l) (drop_replicate (length w) stored_list_max 0)) in
     λ i. record { length = size i; bytes = bytes i; reserved = replicate 4 0 }
 
 form_known : (m : ListForm) → is_well_formed m ≡ true → m ≡ WellFormed

@@ -1,7 +1,7 @@
 -- A device in plain numbers, as C holds it, and how it is read back.
 -- Assumes nothing.
-use Rattle.std.specs.Prelude.{Bool, true, false, not, List, [], ◌∷◌, ℕ, leb, eqb, length, take, get_or, replicate}
-use Rattle.laws.specs.Choice.{if◌then◌else◌, ◌and◌}
+use Rattle.std.specs.Prelude.{Bool, true, false, not, List, [], ◌∷◌, ℕ, leb, eqb, length, take, get_or, replicate, if◌then◌else◌}
+use Rattle.laws.specs.Choice.{◌and◌}
 use Rattle.laws.specs.Lists.{padded}
 use Rattle.laws.specs.Tabulate.{tabulate}
 use Rattle.account_keys.specs.Keys.{held}

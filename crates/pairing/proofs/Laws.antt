@@ -9,7 +9,7 @@ use lib.ListN.{length, take, drop, get_or}
 use lib.Seq.{paste, take_all}
 use borrow.Author.Tests.{eq-eqb, ne_eqb}
 use Rattle.laws.proofs.Choice.{true_is}
-use Rattle.laws.specs.Choice.{if◌then◌else◌}
+use Rattle.std.specs.Prelude.{if◌then◌else◌}
 use Rattle.aes128.specs.Cipher.{inv_cipher}
 use Rattle.basics.specs.Answers.{is_taken}
 use Rattle.basics.specs.declared.Answer.TheVariants.{Taken, LinkIdle, WrongStage, NameRefused}

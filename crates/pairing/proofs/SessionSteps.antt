@@ -8,8 +8,9 @@ use native.Mathlib.Omega.{arith}
 use lib.Dec.{eqb, ltb}
 use lib.ListN.{length, get_or}
 use borrow.Author.Tests.{eqb-true, ltb-true, not-false}
-use Rattle.laws.proofs.Choice.{true_is, if-holds, or_false_right}
-use Rattle.laws.specs.Choice.{if◌then◌else◌, ◌and◌}
+use Rattle.laws.proofs.Choice.{true_is, if_holds, or_false_right}
+use Rattle.laws.specs.Choice.{◌and◌}
+use Rattle.std.specs.Prelude.{if◌then◌else◌}
 use Rattle.account_keys.specs.Keys.{Sized}
 use Rattle.account_keys.specs.declared.AccountKey.{AccountKey}
 use Rattle.aes128.proofs.Sizes.{length_inv_cipher}
@@ -63,7 +64,7 @@ in_a_stage s h e =
 
 module _ {s : Session} where
   lawful-if : (b : Bool) {x y : SessionOutcome} → Lawful s x → (b ≡ false → Lawful s y) → Lawful s (if b then x else y)
-  lawful-if = if-holds (Lawful s)
+  lawful-if = if_holds (Lawful s)
 
   -- the session goes on in a stage
   lawful-stays : (u : Session) → ltb 0 (stage_number u.stage) ≡ true → Lawful s (answered Taken u)
@@ -220,7 +221,7 @@ pub record OwnParts (e : PairingEvent) (a : SessionOutcome) : Type 0 where
 
 module _ {e : PairingEvent} where
   own-if : (b : Bool) {x y : SessionOutcome} → OwnParts e x → OwnParts e y → OwnParts e (if b then x else y)
-  own-if b p q = if-holds (OwnParts e) b p (λ _. q)
+  own-if b p q = if_holds (OwnParts e) b p (λ _. q)
 
   -- an outcome that brings neither
   neither : {a : SessionOutcome} → a.stores ≡ false → a.renames ≡ false → OwnParts e a

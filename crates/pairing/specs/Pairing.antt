@@ -1,9 +1,9 @@
 -- Document 01: pairing started, confirmation needed, passkey write, pairing ended, account key write; document 02 (i): name write.
 -- Each is a function of the link's session alone.
 -- Assumes nothing.
-use Rattle.std.specs.Prelude.{Bool, true, false, not, List, [], ◌∷◌, ◌++◌, ℕ, eqb, ltb, length, drop, get_or, replicate}
+use Rattle.std.specs.Prelude.{Bool, true, false, not, List, [], ◌∷◌, ◌++◌, ℕ, eqb, ltb, length, drop, get_or, replicate, if◌then◌else◌}
 use Rattle.laws.specs.BigEndian.{bytes, number3}
-use Rattle.laws.specs.Choice.{if◌then◌else◌, ◌or◌}
+use Rattle.laws.specs.Choice.{◌or◌}
 use Rattle.account_keys.specs.Keys.{held, kept, member, stored, zero_key}
 use Rattle.account_keys.specs.declared.AccountKey.{AccountKey}
 use Rattle.account_keys.specs.declared.AccountKeys.{AccountKeys}

@@ -9,7 +9,7 @@ use lib.Dec.{ltb}
 use lib.ListN.{length}
 use borrow.Author.Tests.{lt-ltb, le-ltb, ltb-false}
 use Rattle.laws.proofs.Choice.{true_is}
-use Rattle.laws.specs.Choice.{if◌then◌else◌}
+use Rattle.std.specs.Prelude.{if◌then◌else◌}
 use Rattle.account_keys.proofs.Laws.{Kept-kept}
 use Rattle.account_keys.proofs.ReadBack.{reads_valid}
 use Rattle.account_keys.proofs.Storing.{stores_kept}

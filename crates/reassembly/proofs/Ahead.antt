@@ -9,7 +9,7 @@ use lib.Dec.{ltb, leb}
 use lib.ListN.{length, take, drop, length-drop}
 use lib.Seq.{length-take-le}
 use borrow.Author.Tests.{leb-true}
-use Rattle.laws.specs.Choice.{if◌then◌else◌}
+use Rattle.std.specs.Prelude.{if◌then◌else◌}
 use Rattle.recording.proofs.Divisions.{ended_first, open_first}
 use Rattle.recording.specs.Reading.{Division, divide, size_in}
 use Rattle.reassembly.specs.Parts.{holding, none, unfinished, waiting, ahead, behind_part, none_ends, one_ends, taken_of, taken}

@@ -9,10 +9,10 @@ use lib.Dec.{ltb}
 use lib.ListN.{length, take, drop, get_or, length-append, length-drop, take-append-drop, drop_of_length-le, get_or-append}
 use lib.Seq.{length-take-le, get_or-append-add, get_or-drop, get_or-take, take-append-add, drop-drop}
 use borrow.Author.Tests.{ltb-true, ltb-false, le-ltb, lt-ltb, le-leb}
-use Rattle.laws.proofs.Lists.{take-drop-rest}
+use Rattle.laws.proofs.Lists.{take_drop_rest}
 use Rattle.laws.proofs.Padded.{take_padded}
 use Rattle.laws.specs.BigEndian.{number2}
-use Rattle.laws.specs.Choice.{if◌then◌else◌}
+use Rattle.std.specs.Prelude.{if◌then◌else◌}
 use Rattle.laws.specs.Lists.{padded}
 use Rattle.recording.specs.Reading.{size_in, zeros}
 use Rattle.reassembly.proofs.Held.{held_again_lem, longer_is, open_cut, size_front, unfinished_long, unfinished_short, waiting_held, waiting_holding, waiting_skipped}
@@ -23,7 +23,7 @@ use Rattle.reassembly.specs.declared.Unfinished.{Unfinished}
 
 -- the rest of a part, as a slice
 pub rest_long : (bs : List ℕ) (at : ℕ) → length (take (length bs - at) (drop at bs)) ≡ length bs - at
-rest_long bs at = ap (λ (l : List ℕ). length l) (take-drop-rest at bs) ∙ length-drop at bs
+rest_long bs at = ap (λ (l : List ℕ). length l) (take_drop_rest at bs) ∙ length-drop at bs
 
 -- ---- a record that is too long
 

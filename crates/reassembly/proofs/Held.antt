@@ -13,7 +13,8 @@ use borrow.Author.Tests.{ltb-true, ltb-false, leb-true, leb-false, le-ltb, lt-lt
 use Rattle.laws.proofs.Choice.{true_is}
 use Rattle.laws.proofs.Padded.{paste_padded, take_padded}
 use Rattle.laws.specs.BigEndian.{number2}
-use Rattle.laws.specs.Choice.{if◌then◌else◌, ◌and◌}
+use Rattle.laws.specs.Choice.{◌and◌}
+use Rattle.std.specs.Prelude.{if◌then◌else◌}
 use Rattle.laws.specs.Lists.{padded}
 use Rattle.recording.specs.Reading.{size_in, zeros}
 use Rattle.reassembly.specs.Parts.{holding, skipping, none, unfinished, waiting, is_cut, Skips, Holds, Open, longer, Filling}

@@ -12,7 +12,8 @@ use lib.Seq.{length-take-le, get_or-take}
 use borrow.Author.Tests.{ltb-true, ltb-false, leb-true, leb-false, le-ltb, lt-ltb, le-leb, lt-leb, eq-eqb, ne_eqb, eqb-true, eqb-false, not-true}
 use Rattle.laws.proofs.Choice.{and_false, and_left, and_right}
 use Rattle.laws.specs.BigEndian.{number2}
-use Rattle.laws.specs.Choice.{if◌then◌else◌, ◌and◌}
+use Rattle.laws.specs.Choice.{◌and◌}
+use Rattle.std.specs.Prelude.{if◌then◌else◌}
 use Rattle.recording.specs.Reading.{size_in, zeros}
 use Rattle.reassembly.proofs.Held.{longer_is, open_none, open_unfinished, unfinished_long, unfinished_short, waiting_held, waiting_skipped}
 use Rattle.reassembly.specs.Parts.{is_too_long, is_held, is_open, read_again, skipping, none, unfinished, waiting, Open, longer}

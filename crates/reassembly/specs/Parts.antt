@@ -1,8 +1,8 @@
 -- Document 02 (viii): a recording arrives in parts, and "at most one unfinished record is held".
 -- Assumes nothing.
-use Rattle.std.specs.Prelude.{Bool, true, false, not, List, [], ◌∷◌, ◌++◌, ◌⊎◌, ◌≡◌, ℕ, ◌+◌, ◌-◌, ◌<◌, ◌≤◌, eqb, ltb, leb, length, take, drop}
+use Rattle.std.specs.Prelude.{Bool, true, false, not, List, [], ◌∷◌, ◌++◌, ◌⊎◌, ◌≡◌, ℕ, ◌+◌, ◌-◌, ◌<◌, ◌≤◌, eqb, ltb, leb, length, take, drop, if◌then◌else◌}
 use Rattle.std.proofs.Math.Seq.{paste}
-use Rattle.laws.specs.Choice.{if◌then◌else◌, ◌and◌}
+use Rattle.laws.specs.Choice.{◌and◌}
 use Rattle.laws.specs.Lists.{padded}
 use Rattle.recording.specs.Reading.{size_in, divide, zeros}
 use Rattle.reassembly.specs.declared.Again.{Again}

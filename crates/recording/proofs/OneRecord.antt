@@ -7,7 +7,8 @@ use Prim.Native.Nat.{ℕ, suc, ◌+◌, ◌-◌, ◌<◌, ◌≤◌, ◌^◌}
 use native.Mathlib.Omega.{arith}
 use lib.ListN.{length, drop, get_or, length-append}
 use lib.Dec.{eqb, leb}
-use Rattle.laws.specs.Choice.{if◌then◌else◌, ◌and◌}
+use Rattle.laws.specs.Choice.{◌and◌}
+use Rattle.std.specs.Prelude.{if◌then◌else◌}
 use borrow.Author.Tests.{le-ltb, le-leb, eq-eqb}
 use Rattle.laws.specs.BigEndian.{bytes, number}
 use Rattle.key_based.specs.declared.Element.{Element}

@@ -13,7 +13,8 @@ use borrow.Author.Tests.{ltb-false, leb-true, eqb-true, ltb-true, not-false}
 use Rattle.laws.proofs.Bitwise.{by_bit}
 use Rattle.laws.proofs.Choice.{or_false_left, or_false_right, and_left, and_right}
 use Rattle.laws.specs.BigEndian.{bytes}
-use Rattle.laws.specs.Choice.{if◌then◌else◌, ◌and◌, ◌or◌}
+use Rattle.laws.specs.Choice.{◌and◌, ◌or◌}
+use Rattle.std.specs.Prelude.{if◌then◌else◌}
 use Rattle.laws.specs.Lists.{All}
 use Rattle.provider.specs.Rules.Event.{Event, Overflow, PowerOn, OnDevice, PairingMode, AddressRotated, FactoryReset, LinkEvent, LinkUp, LinkDown, OnSession}
 use Rattle.provider.specs.declared.Start.{Start}

@@ -10,7 +10,7 @@ use lib.ListN.{length, take, drop, get_or, length-drop, drop_of_length-le}
 use lib.Seq.{drop-cons, drop-drop}
 use borrow.Author.Tests.{ltb-true, ltb-false, leb-true, leb-false}
 use Rattle.laws.specs.BigEndian.{number2}
-use Rattle.laws.specs.Choice.{if◌then◌else◌}
+use Rattle.std.specs.Prelude.{if◌then◌else◌}
 use Rattle.recording.proofs.Divisions.{whole_first, cut_first}
 use Rattle.recording.specs.Reading.{no_record, after, divide_within, divide, next_at, part}
 use Rattle.recording.specs.declared.reader.Next.{Next}

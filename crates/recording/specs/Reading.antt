@@ -1,8 +1,8 @@
 -- Document 02 (iii), docs/RECORDING.md: a recording, read by whole records; what is no record is an overflow marker.
 -- Assumes nothing.
-use Rattle.std.specs.Prelude.{Bool, not, List, [], ◌∷◌, ◌++◌, map, ℕ, zero, suc, ◌+◌, ◌-◌, eqb, ltb, leb, length, take, drop, get_or, replicate}
+use Rattle.std.specs.Prelude.{Bool, not, List, [], ◌∷◌, ◌++◌, map, ℕ, zero, suc, ◌+◌, ◌-◌, eqb, ltb, leb, length, take, drop, get_or, replicate, if◌then◌else◌}
 use Rattle.laws.specs.BigEndian.{number, number2}
-use Rattle.laws.specs.Choice.{if◌then◌else◌, ◌and◌, ◌or◌}
+use Rattle.laws.specs.Choice.{◌and◌, ◌or◌}
 use Rattle.basics.specs.Bytes.{same}
 use Rattle.key_based.specs.declared.Element.{Element}
 use Rattle.pairing.specs.Pairing.{PairingStarted, ConfirmationNeeded, PasskeyWrite, PairingEnded, AccountKeyWrite, NameWrite}

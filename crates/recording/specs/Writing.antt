@@ -1,7 +1,6 @@
 -- Document 02 (iii): what the writer of a record gives back, and leaves in the lent output.
 -- Assumes nothing.
-use Rattle.std.specs.Prelude.{List, ℕ, ltb, length}
-use Rattle.laws.specs.Choice.{if◌then◌else◌}
+use Rattle.std.specs.Prelude.{List, ℕ, ltb, length, if◌then◌else◌}
 use Rattle.basics.specs.Output.{report_of, placed}
 use Rattle.basics.specs.declared.Answer.TheVariants.{WrongLength}
 use Rattle.basics.specs.declared.Report.{Report}

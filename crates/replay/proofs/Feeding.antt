@@ -2,7 +2,7 @@
 -- Assumes nothing.
 use Rattle.std.proofs.Common.{◌≡◌, ℕ, suc, ◌+◌, ◌-◌, ◌<◌, ◌≤◌, Bool, true, false, not, eqb, ltb, List, [], ◌∷◌, ◌++◌, length, take, drop, replicate, sym, refl, ap, ◌∙◌, subst, append_assoc, arith, length-drop, drop_of_length-le, length-take-le, take_at, take-add, drop_at, ltb-false, ltb-true, eqb-true, le-leb}
 use borrow.Author.Tests.{not-false}
-use Rattle.laws.specs.Choice.{if◌then◌else◌}
+use Rattle.std.specs.Prelude.{if◌then◌else◌}
 use Rattle.laws.specs.Lists.{padded}
 use Rattle.provider.specs.Rules.Event.{Event, Overflow}
 use Rattle.reassembly.proofs.Ahead.{behind_part_lem, taken_ended, taken_open}

@@ -1,7 +1,6 @@
 -- Document 02 (viii): "Feed the replay by parts."
 -- Assumes nothing.
-use Rattle.std.specs.Prelude.{ℕ, ◌+◌, ◌-◌, List, [], ◌∷◌, length}
-use Rattle.laws.specs.Choice.{if◌then◌else◌}
+use Rattle.std.specs.Prelude.{ℕ, ◌+◌, ◌-◌, List, [], ◌∷◌, length, if◌then◌else◌}
 use Rattle.provider.specs.Demands.Validity.{Valid}
 use Rattle.provider.specs.Rules.Event.{Overflow}
 use Rattle.reassembly.specs.Parts.{none, unfinished, waiting, is_cut, Open, ahead, behind_part}

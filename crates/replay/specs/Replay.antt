@@ -1,7 +1,7 @@
 -- Document 02 (iii): the replay of a recording, one line for each event.
 -- Assumes nothing.
-use Rattle.std.specs.Prelude.{ℕ, ◌+◌, ◌%◌, ◌^◌, Bool, true, false, List, [], ◌∷◌, nat_eq}
-use Rattle.laws.specs.Choice.{if◌then◌else◌, ◌and◌, ◌or◌}
+use Rattle.std.specs.Prelude.{ℕ, ◌+◌, ◌%◌, ◌^◌, Bool, true, false, List, [], ◌∷◌, nat_eq, if◌then◌else◌}
+use Rattle.laws.specs.Choice.{◌and◌, ◌or◌}
 use Rattle.basics.specs.Answers.{answer_number, is_taken}
 use Rattle.basics.specs.declared.Answer.{Answer}
 use Rattle.provider.specs.Rules.Control.{off}

@@ -12,7 +12,7 @@ use mir.Syntax.{w8}
 use mir.Val.{Fits}
 use borrow.Author.Tests.{eq-eqb, ne_eqb, lt-ltb, le-ltb, le-leb, lt-leb}
 use Rattle.laws.proofs.All.{all_take, all_drop}
-use Rattle.laws.proofs.Lists.{paste-at, take-drop-rest}
+use Rattle.laws.proofs.Lists.{paste_at, take_drop_rest}
 use Rattle.laws.specs.Choice.{◌and◌}
 use Rattle.laws.specs.Lists.{All}
 use Rattle.key_based.specs.declared.Element.{Element}
@@ -45,7 +45,7 @@ pub part_copied : (r : List ℕ) (at n : ℕ) (o : List ℕ) {x : List ℕ} → 
 part_copied r at n o k h e =
     let p = part at n r in
     let long : length p ≡ n = length_part r at n h in
-    e ∙ ap (λ (s : List ℕ). paste o 0 s (length s)) (part_lent r at n) ∙ paste-at [] o p 0 (length p) refl refl
+    e ∙ ap (λ (s : List ℕ). paste o 0 s (length s)) (part_lent r at n) ∙ paste_at [] o p 0 (length p) refl refl
     ∙ nothing_left p o (length p) (omega (arith, long, k))
 
 bytes_fit : (r : List ℕ) → ((i : ℕ) → Fits w8 (get_or r i 0)) → All (λ b. b < 2 ^ 8) r
@@ -64,7 +64,7 @@ pub power_on_lent : (r : List ℕ) {n : ℕ} {s : Start} → n ≡ list_length r
     → PowerOn (part 4 (4 + n - 4) r) (part (21 + n) (length r - (21 + n)) r) s
     ≡ PowerOn (part 4 (list_length r) r) (drop (21 + list_length r) r) (start_at (4 + list_length r) r)
 power_on_lent r {n} e f =
-    (λ i. PowerOn (part_lent r 4 n i) (take-drop-rest (21 + n) r i) (f i))
+    (λ i. PowerOn (part_lent r 4 n i) (take_drop_rest (21 + n) r i) (f i))
     ∙ ap (λ m. PowerOn (part 4 m r) (drop (21 + m) r) (start_at (4 + m) r)) e
 
 -- ---- the tests of a record

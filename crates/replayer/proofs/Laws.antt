@@ -7,7 +7,7 @@ use Prim.Native.Nat.{ℕ, ◌<◌, ◌≤◌}
 use lib.Dec.{eqb, leb}
 use borrow.Author.Tests.{le-leb, lt-leb}
 use Rattle.laws.proofs.Choice.{and_false}
-use Rattle.laws.specs.Choice.{if◌then◌else◌, ◌and◌}
+use Rattle.std.specs.Prelude.{if◌then◌else◌}
 use Rattle.packed.specs.Packed.{is_device, device_of}
 use Rattle.packed.specs.declared.Unpacked as devices
 use Rattle.reassembly.specs.Parts.{behind_part}

@@ -1,7 +1,7 @@
 -- What a call from C gives back: the step of the stream handed in, or a refusal where that is none.
 -- Assumes nothing.
-use Rattle.std.specs.Prelude.{Bool, false, List, ℕ, eqb, leb, replicate}
-use Rattle.laws.specs.Choice.{if◌then◌else◌, ◌and◌}
+use Rattle.std.specs.Prelude.{Bool, false, List, ℕ, eqb, leb, replicate, if◌then◌else◌}
+use Rattle.laws.specs.Choice.{◌and◌}
 use Rattle.packed.specs.Packed.{flag, packed, is_device, device_of}
 use Rattle.reassembly.specs.Parts.{behind_part, read_again}
 use Rattle.reassembly.specs.declared.Again.{Again}

@@ -1,7 +1,6 @@
 -- What is promised of calls from C.
 -- Assumes nothing.
-use Rattle.std.specs.Prelude.{true, List, [], ◌∷◌, ◌++◌, map, ◌≡◌, ℕ, zero, suc, eqb, length}
-use Rattle.laws.specs.Choice.{if◌then◌else◌}
+use Rattle.std.specs.Prelude.{true, List, [], ◌∷◌, ◌++◌, map, ◌≡◌, ℕ, zero, suc, eqb, length, if◌then◌else◌}
 use Rattle.reassembly.specs.Parts.{none, unfinished}
 use Rattle.recording.specs.Reading.{divide, event_in, events}
 use Rattle.replay.specs.Parts.{start_stream, Ready}

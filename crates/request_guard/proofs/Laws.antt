@@ -10,9 +10,9 @@ use lib.ListN.{take, drop, set, get_or, replicate, length, length-append, length
 use lib.Seq.{paste, get_or-take}
 use borrow.Author.Tests.{eq-eqb, ne_eqb, le-leb, lt-leb, leb-true, leb-false, eqb-true, eqb-false}
 use Rattle.laws.proofs.All.{all_get, all_append, all_drop, all_tabulate}
-use Rattle.laws.proofs.Choice.{if-holds, if-same, and_left, and_right}
+use Rattle.laws.proofs.Choice.{if_holds, if_same, and_left, and_right}
 use Rattle.laws.proofs.Filled.{length_tabulate, get_d_tabulate, drop_tabulate, tabulate_ext, tabulate_take}
-use Rattle.laws.proofs.Lists.{drop-take-more, drop-take-all}
+use Rattle.laws.proofs.Lists.{drop_take_more, drop_take_all}
 use Rattle.laws.proofs.Padded.{one_less_within, length_places, set_free_place, count_one_more, paste_one_less, count_one_less, take_padded}
 use Rattle.laws.specs.Choice.{◌and◌, ◌or◌}
 use Rattle.laws.specs.Lists.{padded, All}
@@ -103,14 +103,14 @@ fresh_valid =
 remembering_few : (l : List Salt) (s : Salt) → length l ≤ salt_limit → length (remembering l s) ≤ salt_limit
 unfolding remembering
 remembering_few l s h =
-    if-holds (λ (k : List Salt). length k ≤ salt_limit) (leb salt_limit (length l))
+    if_holds (λ (k : List Salt). length k ≤ salt_limit) (leb salt_limit (length l))
     (simp (length-append, length-drop) (omega arith))
     (λ e. simp length-append (omega (arith, leb-false salt_limit (length l) e)))
 
 remembering_proper : (l : List Salt) (s : Salt) → All Proper l → Proper s → All Proper (remembering l s)
 unfolding remembering
 remembering_proper l s p q =
-    if-holds (All Proper) (leb salt_limit (length l))
+    if_holds (All Proper) (leb salt_limit (length l))
     (all_append Proper (drop 1 l) (s ∷ []) (all_drop Proper 1 l p) (q, tt))
     (λ e. all_append Proper l (s ∷ []) p (q, tt))
 
@@ -143,7 +143,7 @@ module _ (g : Guard) (v : Valid g) where
   pub clock_valid : (t : ℕ) → Valid (guard_at t g)
   unfolding guard_at
   clock_valid t =
-      if-holds Valid (leb 300000 (t - g.failures.last.0))
+      if_holds Valid (leb 300000 (t - g.failures.last.0))
       (record {
         few = v.few;
         whole = v.whole;
@@ -156,10 +156,10 @@ module _ (g : Guard) (v : Valid g) where
 
 pub spent_step : (l : List Salt) (n i : ℕ) (s : Salt) → i < n → n ≤ length l
     → spent (drop i (take n l)) s ≡ (same_salt (get_or l i absent_salt) s or spent (drop (i + 1) (take n l)) s)
-spent_step l n i s h j = rw (drop-take-more l n i absent_salt h j)
+spent_step l n i s h j = rw (drop_take_more l n i absent_salt h j)
 
 pub spent_end : (l : List Salt) (n i : ℕ) (s : Salt) → n ≤ i → spent (drop i (take n l)) s ≡ false
-spent_end l n i s h = rw (drop-take-all l n i h)
+spent_end l n i s h = rw (drop_take_all l n i h)
 
 -- salts of other lengths are others
 pub same_salt_other_length : (a b : Salt) → (a.length ≡ b.length → ⊥) → false ≡ same_salt a b
@@ -295,9 +295,9 @@ module _ (g : Guard) where
           few = omega (arith, count_in_use g.spent, bounded_few);
           whole = salts_kept (in_use g.spent);
           proper = rw (take_padded salt_limit no_salt (in_use g.spent)) (in-use-proper g.spent bounded_sized);
-          bounded = if-holds (λ (f : Failures). f.count ≤ 10) (eqb g.failures.count 0) (omega arith)
+          bounded = if_holds (λ (f : Failures). f.count ≤ 10) (eqb g.failures.count 0) (omega arith)
               (λ e. bounded-failures);
-          cleared = if-holds (λ (f : Failures). f.count ≡ 0 → f ≡ no_failures) (eqb g.failures.count 0)
+          cleared = if_holds (λ (f : Failures). f.count ≡ 0 → f ≡ no_failures) (eqb g.failures.count 0)
               (λ h. refl)
               (λ e h. absurd (eqb-false g.failures.count 0 e h));
         }
@@ -322,6 +322,6 @@ pub valid_cleaned : (g : Guard) → Valid g → cleaned g ≡ g
 valid_cleaned g v =
     λ i. record {
       spent = (ap salts (in_use_remembered g v) ∙ sym v.whole) i;
-      failures = if-same (eqb g.failures.count 0)
+      failures = if_same (eqb g.failures.count 0)
           (λ e. sym (v.cleared (eqb-true g.failures.count 0 e))) i;
     }

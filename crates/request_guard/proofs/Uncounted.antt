@@ -5,8 +5,9 @@ use mathlib.Core.Path.{◌≡◌, refl, sym, ap}
 use Prim.Native.Nat.{ℕ, ◌-◌}
 use lib.Dec.{leb, eqb}
 use borrow.Author.Tests.{eqb-true}
-use Rattle.laws.proofs.Choice.{if-holds, or_right, and_false}
-use Rattle.laws.specs.Choice.{if◌then◌else◌, ◌and◌, ◌or◌}
+use Rattle.laws.proofs.Choice.{if_holds, or_right, and_false}
+use Rattle.laws.specs.Choice.{◌and◌, ◌or◌}
+use Rattle.std.specs.Prelude.{if◌then◌else◌}
 use Rattle.request_guard.specs.Guard.{no_failures, fresh, locked, accepted_with, guard_at, cleaned}
 use Rattle.request_guard.specs.Wait.{uncounted}
 use Rattle.request_guard.specs.declared.Guard.{Guard}
@@ -30,7 +31,7 @@ module _ (w : RotationWait) (g : Guard) where
   pub clock_uncounted : (t : ℕ) → uncounted w g ≡ true → uncounted w (guard_at t g) ≡ true
   unfolding guard_at
   clock_uncounted t h =
-      if-holds (λ (x : Guard). uncounted w x ≡ true) (leb 300000 (t - g.failures.last.0))
+      if_holds (λ (x : Guard). uncounted w x ≡ true) (leb 300000 (t - g.failures.last.0))
       (or_right (not w.on) true refl) (λ _. h)
 
   -- what stands in places that are not in use does not count

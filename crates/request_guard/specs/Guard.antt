@@ -1,7 +1,7 @@
 -- Document 01, "The device and its events": spent salts and counted failures.
 -- Assumes nothing.
-use Rattle.std.specs.Prelude.{Bool, true, false, List, [], ◌∷◌, ◌++◌, ◌≡◌, ℕ, ◌+◌, ◌-◌, ◌≤◌, leb, eqb, length, take, drop, get_or, replicate}
-use Rattle.laws.specs.Choice.{if◌then◌else◌, ◌and◌, ◌or◌}
+use Rattle.std.specs.Prelude.{Bool, true, false, List, [], ◌∷◌, ◌++◌, ◌≡◌, ℕ, ◌+◌, ◌-◌, ◌≤◌, leb, eqb, length, take, drop, get_or, replicate, if◌then◌else◌}
+use Rattle.laws.specs.Choice.{◌and◌, ◌or◌}
 use Rattle.laws.specs.Lists.{padded, All}
 use Rattle.laws.specs.Tabulate.{tabulate}
 use Rattle.basics.specs.Bytes.{same}

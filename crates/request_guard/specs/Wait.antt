@@ -1,7 +1,7 @@
 -- Document 02 (vii): the wait for a rotation of the BLE address, during which key-based writes get 16.
 -- Assumes nothing.
-use Rattle.std.specs.Prelude.{Bool, true, false, not, eqb}
-use Rattle.laws.specs.Choice.{if◌then◌else◌, ◌or◌}
+use Rattle.std.specs.Prelude.{Bool, true, false, not, eqb, if◌then◌else◌}
+use Rattle.laws.specs.Choice.{◌or◌}
 use Rattle.request_guard.specs.declared.Guard.{Guard}
 use Rattle.request_guard.specs.declared.wait.RotationWait.{RotationWait}
 

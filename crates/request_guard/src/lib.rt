@@ -4,8 +4,7 @@
 
 pub mod wait;
 
-ghost use Rattle.std.specs.Prelude.{true, ◌≡◌, [], ◌∷◌, ◌++◌, ◌≤◌, ◌<◌, drop, eqb};
-ghost use Rattle.laws.specs.Choice.{if◌then◌else◌};
+ghost use Rattle.std.specs.Prelude.{true, ◌≡◌, [], ◌∷◌, ◌++◌, ◌≤◌, ◌<◌, drop, eqb, if◌then◌else◌};
 ghost use Rattle.request_guard.specs.Guard as spec;
 ghost use Rattle.request_guard.specs.Guard.{Valid, Kept, salt_limit, salts, remembered, spent, remembering};
 ghost use Rattle.request_guard.specs.Guard.{fresh, no_failures, failed_at, accepted_with, guard_at, same_salt};

@@ -10,7 +10,7 @@ use lib.ListN.{length, get_or, length-map, get_or-map}
 use lib.Seq.{get_or-set_other}
 use borrow.Author.Tests.{le-leb, lt-leb, eqb-true}
 use Rattle.laws.proofs.All.{all_mapped}
-use Rattle.laws.proofs.Choice.{if-holds}
+use Rattle.laws.proofs.Choice.{if_holds}
 use Rattle.laws.specs.Choice.{◌and◌}
 use Rattle.laws.specs.Lists.{All}
 use Rattle.sessions.specs.Sessions.{idle, absent_session, has_timer, at_clock, expired, session_at, with_session, stage_number, is_stage}
@@ -36,7 +36,7 @@ module _ (t : ℕ) (s : Session) where
 -- what holds of a session and of an idle one holds of it at a moment
 pub clock_keeps : (P : Session → Type 0) (t : ℕ) (s : Session) → P idle → P s → P (at_clock t s)
 unfolding at_clock
-clock_keeps P t s p q = if-holds P (has_timer s.stage and leb 10000 (t - s.since.0)) p (λ e. q)
+clock_keeps P t s p q = if_holds P (has_timer s.stage and leb 10000 (t - s.since.0)) p (λ e. q)
 
 -- the clock step leaves all the links, and what holds of an idle one and of each still holds of each
 module _ (t : ℕ) (ss : Sessions) where

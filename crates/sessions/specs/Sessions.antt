@@ -1,7 +1,7 @@
 -- Document 01, "The device and its events": links, stages and their timers.
 -- Assumes nothing.
-use Rattle.std.specs.Prelude.{Bool, true, false, [], map, ◌≡◌, ℕ, ◌-◌, leb, eqb, get_or, set, replicate}
-use Rattle.laws.specs.Choice.{if◌then◌else◌, ◌and◌}
+use Rattle.std.specs.Prelude.{Bool, true, false, [], map, ◌≡◌, ℕ, ◌-◌, leb, eqb, get_or, set, replicate, if◌then◌else◌}
+use Rattle.laws.specs.Choice.{◌and◌}
 use Rattle.sessions.specs.declared.Session.{Session}
 use Rattle.sessions.specs.declared.Sessions.{Sessions}
 use Rattle.sessions.specs.declared.Stage.{Stage}

@@ -4,7 +4,7 @@ use Rattle.std.proofs.Common.{◌≡◌, ℕ, zero, suc, ◌+◌, ◌-◌, ◌*�
 use native.Mathlib.Numerals.{add-two, add-three, add-four}
 use lib.ListN.{length-replicate, get_or-append}
 use lib.Seq.{drop-append-le, take-append-le, paste}
-use Rattle.laws.proofs.Lists.{take-drop-rest}
+use Rattle.laws.proofs.Lists.{take_drop_rest}
 use Rattle.laws.proofs.Padded.{padded_full, take_padded, set_padded, paste_padded, padded_replicate}
 use Rattle.laws.specs.BigEndian.{bytes}
 use Rattle.laws.specs.Lists.{padded}
@@ -185,7 +185,7 @@ module _ (m : List ℕ) (n : ℕ) (ends-m : length m % 64 ≡ n % 64) {last : La
 
   last_is : last ≡ last_blocks rest n
   unfolding rest
-  last_is = e ∙ rw (take-drop-rest (length m - length m % 64) m)
+  last_is = e ∙ rw (take_drop_rest (length m - length m % 64) m)
 
   pub end_within : last.end ≤ 128
   end_within = rw last_is (two_blocks rest n left)

@@ -1,7 +1,7 @@
 -- Four stores at the front.
 use native.Mathlib.Omega.{arith}
 use lib.ListN.{length-set}
-use Rattle.laws.proofs.Lists.{set4-front}
+use Rattle.laws.proofs.Lists.{set4_front}
 use Rattle.advertising.proofs.begin.Goals as goal
 
 pub bounds-out-1 : goal.bounds-out-1
@@ -11,4 +11,4 @@ pub bounds-out-2 : goal.bounds-out-2
 bounds-out-2 c = simp length-set (omega (arith, c.requires))
 
 pub returns : goal.returns
-returns c = set4-front c.args.out.now c.args.rest 0x16 0x2C 0xFE c.requires
+returns c = set4_front c.args.out.now c.args.rest 0x16 0x2C 0xFE c.requires

@@ -6,7 +6,7 @@ use mathlib.Core.List.{List, Permᴰ}
 use mathlib.Core.Path.{◌≡◌, refl, sym, ap, subst, ◌∙◌}
 use Prim.Native.Nat.{ℕ}
 use Rattle.laws.proofs.Choice.{true_is}
-use Rattle.laws.specs.Choice.{if◌then◌else◌}
+use Rattle.std.specs.Prelude.{if◌then◌else◌}
 use Rattle.account_keys.proofs.Laws.{held_kept, stored_held}
 use Rattle.account_keys.proofs.Use.{use_permutes}
 use Rattle.account_keys.specs.Keys as keys

@@ -8,7 +8,8 @@ use Prim.Native.Nat.{ℕ}
 use lib.Dec.{ltb}
 use borrow.Author.Tests.{eqb-true, eqb-false}
 use Rattle.laws.proofs.Choice.{and_left, and_right, or_left, or_right}
-use Rattle.laws.specs.Choice.{if◌then◌else◌, ◌or◌}
+use Rattle.laws.specs.Choice.{◌or◌}
+use Rattle.std.specs.Prelude.{if◌then◌else◌}
 use Rattle.account_keys.proofs.ReadBack.{reads_valid}
 use Rattle.account_keys.specs.Keys as keys
 use Rattle.account_keys.specs.Keys.{held}

@@ -9,7 +9,8 @@ use lib.ListN.{length, take, drop}
 use lib.Seq.{take_at, get_or-set_same}
 use borrow.Author.Tests.{le-leb}
 use Rattle.laws.proofs.Choice.{true_is, fails_with}
-use Rattle.laws.specs.Choice.{if◌then◌else◌, ◌and◌}
+use Rattle.laws.specs.Choice.{◌and◌}
+use Rattle.std.specs.Prelude.{if◌then◌else◌}
 use Rattle.additional_data.proofs.Promises.{sealed_length, opening_undoes_sealing, name_short}
 use Rattle.additional_data.specs.Packet.{sealed, packet_size, packet_sized}
 use Rattle.account_keys.specs.declared.AccountKeys.{AccountKeys}

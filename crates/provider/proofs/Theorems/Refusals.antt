@@ -7,8 +7,8 @@ use Prim.Native.Nat.{ℕ}
 use lib.Dec.{ltb}
 use lib.ListN.{length}
 use lib.Seq.{set-get_or}
-use Rattle.laws.proofs.Choice.{true_is, if-same}
-use Rattle.laws.specs.Choice.{if◌then◌else◌}
+use Rattle.laws.proofs.Choice.{true_is, if_same}
+use Rattle.std.specs.Prelude.{if◌then◌else◌}
 use Rattle.additional_data.specs.Packet.{packet_sized}
 use Rattle.basics.specs.Answers.{is_taken, is_one_of}
 use Rattle.basics.specs.declared.Answer.{Answer}
@@ -186,8 +186,8 @@ told_on_link d l t (OnSession e) = record {
     session-reply d l t e h,
   );
   -- no key is tried: told are 0 and neither, whatever the answer
-  named = sym (if-same (is_taken (session_step e t (session_at (clock_step t d).sessions l)).answer) (λ _. refl));
-  tried = sym (if-same (is_one_of (0 ∷ 7 ∷ 8 ∷ []) (session_step e t (session_at (clock_step t d).sessions l)).answer) (λ _. refl));
+  named = sym (if_same (is_taken (session_step e t (session_at (clock_step t d).sessions l)).answer) (λ _. refl));
+  tried = sym (if_same (is_one_of (0 ∷ 7 ∷ 8 ∷ []) (session_step e t (session_at (clock_step t d).sessions l)).answer) (λ _. refl));
 }
 
 told : (d : Device) {e : Event} {x : Effect} → event.Way d e x → Tells d e x

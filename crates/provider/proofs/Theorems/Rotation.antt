@@ -7,8 +7,9 @@ use mathlib.Core.Path.{◌≡◌, refl, sym, ap, ◌∙◌}
 use Prim.Native.Nat.{ℕ}
 use lib.Dec.{eqb}
 use borrow.Author.Tests.{eqb-true}
-use Rattle.laws.proofs.Choice.{true_is, if-same, and_left, and_right, and_false, and_true_left, or_false_left, or_false_right}
-use Rattle.laws.specs.Choice.{if◌then◌else◌, ◌and◌, ◌or◌}
+use Rattle.laws.proofs.Choice.{true_is, if_same, and_left, and_right, and_false, and_true_left, or_false_left, or_false_right}
+use Rattle.laws.specs.Choice.{◌and◌, ◌or◌}
+use Rattle.std.specs.Prelude.{if◌then◌else◌}
 use Rattle.basics.proofs.Answers.{unlike, number_taken}
 use Rattle.basics.specs.Answers.{is_taken}
 use Rattle.basics.specs.declared.Answer.TheVariants.{Taken, UnknownLink, ClockWentBack, LockedOut, NotInPairingMode, NoKeyFits, SaltSpent, RotationAwaited}
@@ -71,7 +72,7 @@ wait_follows d e = follows d (way d e)
 -- an event that tries no key names no address
 names_neither : (d : Device) (e : Event) → (search_in d e).named ≡ Neither → (step d e).gives.reply.named ≡ Neither
 names_neither d e s =
-    address_told d e ∙ ap (told_named (answer_of d e)) s ∙ if-same (is_taken (answer_of d e)) {x = Neither} (λ _. refl)
+    address_told d e ∙ ap (told_named (answer_of d e)) s ∙ if_same (is_taken (answer_of d e)) {x = Neither} (λ _. refl)
 
 -- only a key-based write tries keys
 searches_none : (d : Device) (e : Event) → may_begin e ≡ false → (search_in d e).named ≡ Neither

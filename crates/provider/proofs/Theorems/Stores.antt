@@ -6,7 +6,7 @@ use mathlib.Core.Path.{◌≡◌, refl, sym, ap, ◌∙◌}
 use lib.Dec.{leb}
 use lib.ListN.{length, drop}
 use Rattle.laws.proofs.Choice.{true_is}
-use Rattle.laws.specs.Choice.{if◌then◌else◌}
+use Rattle.std.specs.Prelude.{if◌then◌else◌}
 use Rattle.account_keys.specs.Keys.{limit, held, member, without, used, stored}
 use Rattle.account_keys.specs.StoredList.{reading, writing}
 use Rattle.account_keys.specs.declared.AccountKey.{AccountKey}

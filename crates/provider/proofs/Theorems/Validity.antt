@@ -5,7 +5,7 @@ use mathlib.Core.List.{List, [], ◌∷◌}
 use mathlib.Core.Path.{◌≡◌, refl}
 use Prim.Native.Nat.{ℕ, ◌<◌}
 use Rattle.laws.proofs.All.{all_get}
-use Rattle.laws.specs.Choice.{if◌then◌else◌}
+use Rattle.std.specs.Prelude.{if◌then◌else◌}
 use Rattle.account_keys.proofs.ReadBack.{reads_back, reads_valid}
 use Rattle.account_keys.proofs.Storing.{stores_valid}
 use Rattle.account_keys.proofs.Use.{uses_valid}

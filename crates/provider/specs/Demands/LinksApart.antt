@@ -1,7 +1,6 @@
 -- "An event on one link leaves the other links' K and stages as they are, timers and answer 4 apart."
 -- Assumes nothing.
-use Rattle.std.specs.Prelude.{[], ◌∷◌, ◌≡◌, ℕ, ◌<◌}
-use Rattle.laws.specs.Choice.{if◌then◌else◌}
+use Rattle.std.specs.Prelude.{[], ◌∷◌, ◌≡◌, ℕ, ◌<◌, if◌then◌else◌}
 use Rattle.basics.specs.Answers.{is_one_of}
 use Rattle.basics.specs.declared.Answer.{Answer}
 use Rattle.provider.specs.Rules.Event.{LinkEvent, OnLink, next, answer_of}

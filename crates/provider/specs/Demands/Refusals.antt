@@ -1,8 +1,7 @@
 -- Demand 1: what a refusal changes, leaves and hands out, and the number of keys tried and the address named that every
 -- answer tells.
 -- Assumes nothing.
-use Rattle.std.specs.Prelude.{false, [], ◌∷◌, ◌≡◌, ℕ}
-use Rattle.laws.specs.Choice.{if◌then◌else◌}
+use Rattle.std.specs.Prelude.{false, [], ◌∷◌, ◌≡◌, ℕ, if◌then◌else◌}
 use Rattle.basics.specs.Answers.{is_taken, is_one_of}
 use Rattle.basics.specs.declared.Answer.{Answer}
 use Rattle.key_based.specs.Decision.{tried_keys}

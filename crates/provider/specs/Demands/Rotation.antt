@@ -1,7 +1,7 @@
 -- Document 02 (vii): what begins and what lifts the wait for a rotation, and that no key-based write is accepted during it.
 -- Assumes nothing.
-use Rattle.std.specs.Prelude.{Bool, true, false, List, [], ◌∷◌, ◌⊎◌, ◌≡◌, ℕ}
-use Rattle.laws.specs.Choice.{if◌then◌else◌, ◌and◌, ◌or◌}
+use Rattle.std.specs.Prelude.{Bool, true, false, List, [], ◌∷◌, ◌⊎◌, ◌≡◌, ℕ, if◌then◌else◌}
+use Rattle.laws.specs.Choice.{◌and◌, ◌or◌}
 use Rattle.basics.specs.Answers.{is_taken}
 use Rattle.key_based.specs.Named.{asks_rotation}
 use Rattle.provider.specs.Demands.Gap.{Observed, is_request, Accepts}

@@ -1,7 +1,7 @@
 -- Document 01: overflow marker, power-on, pairing mode, rotation and factory reset; the advertisement. Document 02 (v): the filter
 -- is built where the list or the salt changes, and the advertisement reads it; (vii): what lifts the wait for a rotation.
 -- Assumes nothing.
-use Rattle.std.specs.Prelude.{Bool, List, [], length, replicate, ℕ}
+use Rattle.std.specs.Prelude.{Bool, List, [], length, replicate, ℕ, if◌then◌else◌}
 use Rattle.account_keys.specs.Keys.{held, kept}
 use Rattle.account_keys.specs.StoredList.{reading}
 use Rattle.account_keys.specs.declared.AccountKeys.{AccountKeys}
@@ -12,7 +12,6 @@ use Rattle.advertising.specs.Beacon.{in_pairing_mode, rotated, beacon_payload}
 use Rattle.advertising.specs.declared.Prompt.{Prompt}
 use Rattle.basics.specs.declared.Address.{Address}
 use Rattle.basics.specs.declared.Answer.TheVariants.{ListMalformed}
-use Rattle.laws.specs.Choice.{if◌then◌else◌}
 use Rattle.names.specs.Name.{is_name, name_of, no_name}
 use Rattle.names.specs.declared.Name.{Name}
 use Rattle.provider.specs.Rules.Device.{Effect, answers, takes, drop_all, with_guard, with_wait, with_keys, with_beacon, with_name}

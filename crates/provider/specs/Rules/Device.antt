@@ -1,7 +1,6 @@
 -- Document 01, "The device and its events": the parts of a device, what an event does, and the checks before it.
 -- Assumes nothing.
-use Rattle.std.specs.Prelude.{not, List, [], ℕ, ltb}
-use Rattle.laws.specs.Choice.{if◌then◌else◌}
+use Rattle.std.specs.Prelude.{not, List, [], ℕ, ltb, if◌then◌else◌}
 use Rattle.account_keys.specs.declared.AccountKeys.{AccountKeys}
 use Rattle.advertising.specs.declared.Beacon.{Beacon}
 use Rattle.basics.specs.Answers.{is_taken}

@@ -1,7 +1,6 @@
 -- Document 01, "The two runs of demand 3": the kinds of event by their shape, with the name write of document 02 (i), one step and whole runs.
 -- Assumes nothing.
-use Rattle.std.specs.Prelude.{Bool, not, List, [], ◌∷◌, ℕ, ltb, length}
-use Rattle.laws.specs.Choice.{if◌then◌else◌}
+use Rattle.std.specs.Prelude.{Bool, not, List, [], ◌∷◌, ℕ, ltb, length, if◌then◌else◌}
 use Rattle.account_keys.specs.Keys.{held}
 use Rattle.additional_data.specs.Packet.{packet_sized}
 use Rattle.advertising.specs.Beacon.{refreshed}

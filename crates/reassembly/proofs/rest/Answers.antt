@@ -1,7 +1,7 @@
 -- The rest of the part is put behind nothing.
 use mathlib.Core.Path.{ap, ◌∙◌}
 use native.Mathlib.Omega.{arith}
-use Rattle.laws.proofs.Lists.{take-drop-rest}
+use Rattle.laws.proofs.Lists.{take_drop_rest}
 use Rattle.reassembly.proofs.Cases.{rest_long}
 use Rattle.reassembly.specs.Parts.{longer}
 use Rattle.reassembly.specs.declared.Unfinished.{Unfinished}
@@ -15,4 +15,4 @@ with-requires c =
 pub returns : goal.returns
 returns c =
     let a = c.args in
-    c.with.ensures ∙ (λ i. longer (c.skipping-empty.ensures i) (take-drop-rest a.at a.part.now i))
+    c.with.ensures ∙ (λ i. longer (c.skipping-empty.ensures i) (take_drop_rest a.at a.part.now i))

@@ -7,7 +7,7 @@ use Rattle.provider.specs.Demands.Validity.{Valid}
 use Rattle.provider.specs.Rules.Event.{Event, Overflow}
 use Rattle.reassembly.proofs.Ahead.{behind_part_lem}
 use Rattle.reassembly.proofs.Held.{cut_skips, held_again_lem, more_to_come, open_cut, open_none, open_unfinished, size_front, unfinished_long, unfinished_short, waiting_holding, waiting_skipped}
-use Rattle.laws.specs.Choice.{if◌then◌else◌}
+use Rattle.std.specs.Prelude.{if◌then◌else◌}
 use Rattle.reassembly.specs.declared.Unfinished.{Unfinished}
 use Rattle.reassembly.specs.Parts.{skipping, none, unfinished, waiting, is_cut, Open, ahead}
 use Rattle.recording.proofs.Divisions.{ended_first, open_first, divide_on, rest_open, together}

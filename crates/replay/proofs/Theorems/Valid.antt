@@ -1,7 +1,7 @@
 -- A replay's device is valid, whatever is read.
 -- Assumes nothing.
 use Rattle.std.proofs.Common.{Bool, true, false}
-use Rattle.laws.specs.Choice.{if◌then◌else◌}
+use Rattle.std.specs.Prelude.{if◌then◌else◌}
 use Rattle.provider.proofs.Theorems.Validity.{stays_valid}
 use Rattle.provider.proofs.Theorems.ValidParts.{off_valid}
 use Rattle.provider.specs.Demands.Validity.{Valid}

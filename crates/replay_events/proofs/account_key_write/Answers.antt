@@ -4,7 +4,7 @@ use mathlib.Core.Path.{ap}
 use Prim.Native.Nat.{ℕ}
 use lib.ListN.{length, drop}
 use borrow.Author.Tests.{le-leb, lt-leb}
-use Rattle.laws.proofs.Lists.{take-drop-rest}
+use Rattle.laws.proofs.Lists.{take_drop_rest}
 use Rattle.pairing.specs.Pairing.{AccountKeyWrite}
 use Rattle.provider.specs.Rules.Event.{OnSession}
 use Rattle.recording.specs.Reading.{read_as}
@@ -22,4 +22,4 @@ unfolding read_as
 returns c =
     let r = c.args.«record».now in
     taken_on_link c.args.device r (le-leb 11 (length r) c.if-record-lt11.false) (OnSession (AccountKeyWrite (drop 11 r)))
-    c.clock-clock.ensures (ap (λ (b : List ℕ). OnSession (AccountKeyWrite b)) (take-drop-rest 11 r)) c.account_key_write.ensures
+    c.clock-clock.ensures (ap (λ (b : List ℕ). OnSession (AccountKeyWrite b)) (take_drop_rest 11 r)) c.account_key_write.ensures

@@ -6,7 +6,7 @@ use lib.ListN.{length, drop, replicate}
 use lib.Seq.{paste}
 use borrow.Author.Rules.{rules}
 use Rattle.laws.proofs.Loops.{at_limit}
-use Rattle.laws.proofs.Padded.{paste-drop-more}
+use Rattle.laws.proofs.Padded.{paste_drop_more}
 use Rattle.account_keys.specs.Keys.{limit, zero_key}
 use Rattle.account_keys.specs.declared.AccountKeys.{AccountKeys}
 use Rattle.account_keys.proofs.Laws.{absent_key, length_keys, kept_drop}
@@ -20,7 +20,7 @@ loop-i-preserved c =
     let ks = c.args.self in
     let long : length ks.keys ≡ limit = length_keys ks c.requires.0 in (
       search rules,
-      paste-drop-more (replicate limit zero_key) ks.keys c.loop-i.i absent_key c.loop-i.invariant.1 (omega arith)
+      paste_drop_more (replicate limit zero_key) ks.keys c.loop-i.i absent_key c.loop-i.invariant.1 (omega arith)
           (omega arith),
     )
 

@@ -1,6 +1,5 @@
 -- Every file leaves a stream that is ready for the next. The measure is the number of files that are left.
 use mathlib.Core.Path.{◌≡◌, refl, ◌∙◌}
-use Prim.Native.Nat.{◌-◌}
 use native.Mathlib.Omega.{arith}
 use lib.ListN.{length}
 use borrow.Author.Rules.{rules}

@@ -1,6 +1,5 @@
 -- At each turn, what is to come is what was to come at the start; the last turn stands at the end of the part.
 use native.Mathlib.Omega.{arith}
-use Prim.Native.Nat.{◌-◌}
 use Rattle.fp_replay.proofs.Turns.{ahead_first, ahead_again, fewer_again, all_drained}
 use Rattle.fp_replay.proofs.part.drain.Goals as goal
 

@@ -3,7 +3,7 @@ use mathlib.Core.Path.{◌≡◌, ap, ◌∙◌}
 use Prim.Native.Nat.{◌+◌, ◌-◌}
 use native.Mathlib.Omega.{arith}
 use lib.ListN.{length, take, drop}
-use Rattle.laws.proofs.Lists.{take-drop-rest}
+use Rattle.laws.proofs.Lists.{take_drop_rest}
 use Rattle.reassembly.proofs.Cases.{fill_ended, fill_open}
 use Rattle.reassembly.specs.Parts.{longer}
 use Rattle.reassembly.specs.declared.Found.TheVariants.{Nothing, Held}
@@ -12,7 +12,7 @@ use Rattle.reassembly.proofs.Unfinished.fill.Goals as goal
 pub returns-then-part-at : goal.returns-then-part-at
 returns-then-part-at c =
     let a = c.args in
-    (λ i. record { next = (c.with.ensures ∙ ap (longer a.self) (take-drop-rest a.at a.part.now)) i; at = length a.part.now; found = Nothing })
+    (λ i. record { next = (c.with.ensures ∙ ap (longer a.self) (take_drop_rest a.at a.part.now)) i; at = length a.part.now; found = Nothing })
     ∙ fill_open a.self a.size a.part.now a.at c.requires.0 c.requires.1 c.if-part-at.true
 
 pub returns : goal.returns

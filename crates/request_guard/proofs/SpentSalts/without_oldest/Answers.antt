@@ -6,7 +6,7 @@ use lib.ListN.{length, drop, replicate}
 use lib.Seq.{paste}
 use borrow.Author.Rules.{rules}
 use Rattle.laws.proofs.Loops.{at_limit}
-use Rattle.laws.proofs.Padded.{paste-drop-more}
+use Rattle.laws.proofs.Padded.{paste_drop_more}
 use Rattle.request_guard.specs.Guard.{salt_limit, no_salt}
 use Rattle.request_guard.specs.declared.SpentSalts.{SpentSalts}
 use Rattle.request_guard.proofs.Laws.{absent_salt, length_salts, salts_drop}
@@ -20,7 +20,7 @@ loop-i-preserved c =
     let ss = c.args.self in
     let long : length ss.salts ≡ salt_limit = length_salts ss c.requires.0 in (
       search rules,
-      paste-drop-more (replicate salt_limit no_salt) ss.salts c.loop-i.i absent_salt c.loop-i.invariant.1
+      paste_drop_more (replicate salt_limit no_salt) ss.salts c.loop-i.i absent_salt c.loop-i.invariant.1
           (omega arith) (omega arith),
     )
 
