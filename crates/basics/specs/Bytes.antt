@@ -2,6 +2,7 @@
 -- Assumes nothing.
 use Rattle.std.specs.Prelude.{Bool, true, false, List, [], ◌∷◌, ℕ, eqb, take, drop}
 use Rattle.laws.specs.Choice.{◌and◌}
+
 -- two byte strings are equal if their lengths and bytes are
 abbrev pub same : List ℕ → List ℕ → Bool
 same [] [] = true

@@ -10,6 +10,6 @@ slice_bounds-read-end c =
 
 pub returns : goal.returns
 returns c = record {
-      value = ap (λ (r : NameReading). r.name) c.read.ensures;
-      valid = rw c.read.ensures (reading_valid _);
-    }
+  value = ap (λ (r : NameReading). r.name) c.read.ensures;
+  valid = rw c.read.ensures (reading_valid _);
+}
