@@ -78,11 +78,11 @@ def entered(costs, pattern):
     return sum(cost for calls, cost in costs.items() if calls and named(calls[1]) and not named(calls[0]))
 
 
-def run(command, stdin=None):
+def run(command, stdin=None, cwd=ROOT):
     words = [str(word) for word in command]
     if not shutil.which(words[0]):
         sys.exit(f"the command {words[0]} is not there")
-    done = subprocess.run(words, cwd=ROOT, stdin=stdin, capture_output=True, text=True)
+    done = subprocess.run(words, cwd=cwd, stdin=stdin, capture_output=True, text=True)
     if done.returncode:
         sys.exit(f"{' '.join(map(str, command))} failed:\n{done.stdout}{done.stderr}")
     return done.stdout
