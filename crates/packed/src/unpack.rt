@@ -14,6 +14,9 @@ use request_guard::wait::RotationWait;
 use request_guard::{Failures, Guard};
 use sessions::{LINKS, Session, Sessions, Stage};
 
+// The last of the numbers that a link's stage can have.
+const LAST_STAGE: u8 = 5;
+
 pub fn unpack(from: FpDevice) -> Unpacked
     ensures { result ≡ record { known = is_device from; device = device_of from } }
 {
@@ -169,7 +172,7 @@ fn stages_known(from: [FpSession; LINKS]) -> bool
 {
     let mut i = 0;
     while i < LINKS {
-        if 5 < from[i].stage {
+        if LAST_STAGE < from[i].stage {
             return false;
         }
         i += 1;

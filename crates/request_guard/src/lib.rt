@@ -17,6 +17,9 @@ const LIMIT: usize = 16;
 // The salts that stay when one is forgotten.
 const LAST: usize = LIMIT - 1;
 
+// How long failures are counted after the last one, in milliseconds.
+const FORGOTTEN_AFTER: u64 = 300000;
+
 // A request's salt: its first `length` bytes, 2 or 8; the others are zero.
 #[repr(C)]
 #[derive(Clone, Copy)]
@@ -64,7 +67,7 @@ impl Guard {
         ensures { result ≡ guard_at now.0 self }
     {
         let last = self.failures.last;
-        if basics::ago(now, last) < 300000 {
+        if basics::ago(now, last) < FORGOTTEN_AFTER {
             return self;
         }
         self.failures = Failures::none();
@@ -269,6 +272,7 @@ impl Salt {
     }
 }
 
+#[tactic(auto, using(crate::proofs::Laws::same_salt_other_length))]
 fn same_salt(a: Salt, b: Salt) -> bool
     ensures { result ≡ same_salt a b }
 {

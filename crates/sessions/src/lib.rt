@@ -9,6 +9,9 @@ use basics::{Link, Moment};
 // The number of links: 0 to 7 exist.
 pub const LINKS: usize = 8;
 
+// How long a timed stage lasts, in milliseconds.
+const TIME_LIMIT: u64 = 10000;
+
 // Document 01's stages; an idle link is in none.
 #[derive(Clone, Copy)]
 pub enum Stage {
@@ -77,7 +80,7 @@ impl Session {
         if !timed(stage) {
             return self;
         }
-        if basics::ago(now, since) < 10000 {
+        if basics::ago(now, since) < TIME_LIMIT {
             return self;
         }
         Session::idle()
