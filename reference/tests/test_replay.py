@@ -35,7 +35,7 @@ class Page(unittest.TestCase):
 
 
 class ProgramsInput(unittest.TestCase):
-    """What `rt check` runs fp_replay on, and holds it to."""
+    """What `rt ci` runs fp_replay on, and holds it to."""
 
     def test_its_lines(self):
         folder = recording_page.PAGE.parents[1] / "crates" / "fp_replay"
