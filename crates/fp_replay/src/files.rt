@@ -9,6 +9,9 @@ use std::env::Env;
 use std::fs::File;
 use std::io::{Error, ErrorKind};
 
+// What the system says of an argument that is longer than a path can be.
+const ENAMETOOLONG: i32 = 36;
+
 pub fn replay_all(rt: &HostRuntime, input: &mut [u8], out: &mut [u8]) -> Stream
     requires { 83 ≤ length out.old }
     ensures { Ready result }
@@ -36,7 +39,7 @@ fn standard_input(rt: &HostRuntime, stream: Stream, input: &mut [u8], out: &mut 
     ensures { Ready result }
 {
     let mut source = rt.stdin();
-    let got = input::read_to_end(rt, stream, &mut source, "standard input", input, out);
+    let got = input::read_to_end(rt, stream, &mut source, b"standard input", input, out);
     got.stream
 }
 
@@ -71,35 +74,40 @@ fn one_file(rt: &HostRuntime, stream: Stream, i: usize, input: &mut [u8], out: &
     ensures { Ready result.stream }
 {
     let mut path = io::buffer();
-    let length = match rt.arg(i, &mut path) {
-        Ok(length) => length,
-        Err(_) => return input::failed(
-            rt,
-            stream,
-            "argument",
-            Error::from(ErrorKind::InvalidFilename),
-        ),
-    };
-    match std::str::from_utf8(&path[..length]) {
-        Ok(name) => named_file(rt, stream, name, input, out),
+    match rt.arg(i, &mut path) {
+        Ok(length) => named_file(rt, stream, &path[..length], input, out),
         Err(_) => input::failed(
             rt,
             stream,
-            "argument",
-            Error::from(ErrorKind::InvalidFilename),
+            b"argument",
+            Error::from_raw_os_error(ENAMETOOLONG),
         ),
     }
 }
 
-fn named_file(rt: &HostRuntime, stream: Stream, name: &str, input: &mut [u8], out: &mut [u8]) -> Got
+fn named_file(
+    rt: &HostRuntime,
+    stream: Stream,
+    name: &[u8],
+    input: &mut [u8],
+    out: &mut [u8],
+) -> Got
     requires { Ready stream × (83 ≤ length out.old) }
     ensures { Ready result.stream }
 {
-    match File::open(rt, name) {
+    match opened(rt, name) {
         Ok(file) => {
             let mut source = file;
             input::read_to_end(rt, stream, &mut source, name, input, out)
         }
         Err(error) => input::failed(rt, stream, name, error),
+    }
+}
+
+// A path is text for std, so a name that is no UTF-8 is one that can't be opened.
+fn opened(rt: &HostRuntime, name: &[u8]) -> Result<File, Error> {
+    match std::str::from_utf8(name) {
+        Ok(path) => File::open(rt, path),
+        Err(_) => Err(Error::from(ErrorKind::InvalidFilename)),
     }
 }

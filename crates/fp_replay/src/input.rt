@@ -20,7 +20,7 @@ pub fn read_to_end<R: Read>(
     rt: &HostRuntime,
     stream: Stream,
     source: &mut R,
-    name: &str,
+    name: &[u8],
     input: &mut [u8],
     out: &mut [u8],
 ) -> Got
@@ -47,7 +47,7 @@ fn read_some<R: Read>(
     rt: &HostRuntime,
     stream: Stream,
     source: &mut R,
-    name: &str,
+    name: &[u8],
     input: &mut [u8],
     out: &mut [u8],
 ) -> Got
@@ -65,7 +65,7 @@ fn read_some<R: Read>(
     }
 }
 
-fn not_read(rt: &HostRuntime, stream: Stream, name: &str, error: Error) -> Got
+fn not_read(rt: &HostRuntime, stream: Stream, name: &[u8], error: Error) -> Got
     ensures { result.stream ≡ stream }
 {
     if error.kind() == ErrorKind::Interrupted {
@@ -79,7 +79,7 @@ fn not_read(rt: &HostRuntime, stream: Stream, name: &str, error: Error) -> Got
 }
 
 // A file can't be opened or read: a message, and the recording ends there.
-pub fn failed(rt: &HostRuntime, stream: Stream, name: &str, error: Error) -> Got
+pub fn failed(rt: &HostRuntime, stream: Stream, name: &[u8], error: Error) -> Got
     ensures { result ≡ record { stream = stream; more = false; failed = true } }
 {
     output::report(rt, name, error);

@@ -3,7 +3,7 @@ ghost use Rattle.std.specs.Prelude.{◌≡◌, ◌≤◌, length};
 ghost use Rattle.fp_replay.specs.Reading as spec;
 
 use replay::Line;
-use std::io::{Error, Print};
+use std::io::{Error, Print, Write};
 
 // A line behind the first `filled` bytes; they are written first, if there is no room behind them.
 pub fn print(rt: &HostRuntime, out: &mut [u8], filled: usize, line: Line) -> usize
@@ -31,13 +31,18 @@ pub fn flush(rt: &HostRuntime, out: &[u8], filled: usize)
     requires { filled ≤ length out.now }
 {
     if let Err(error) = Print::write_all(rt, &out[..filled]) {
-        report(rt, "standard output", error);
+        report(rt, b"standard output", error);
     }
 }
 
 // A message on standard error. If there is none to write to, nothing is left to tell it by.
-pub fn report(rt: &HostRuntime, name: &str, error: Error) {
-    match eprintln!(rt; "{name}: {error}") {
+pub fn report(rt: &HostRuntime, name: &[u8], error: Error) {
+    let mut stream = rt.stderr();
+    match stream.write_all(name) {
+        Ok(()) => {}
+        Err(_) => {}
+    }
+    match eprintln!(rt; ": {error}") {
         Ok(()) => {}
         Err(_) => {}
     }

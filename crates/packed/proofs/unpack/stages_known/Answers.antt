@@ -12,10 +12,8 @@ loop-i-init c = (search rules, refl)
 pub returns-then-from-i-gt-LAST_STAGE : goal.returns-then-from-i-gt-LAST_STAGE
 returns-then-from-i-gt-LAST_STAGE c =
     let a = c.args in
-    let h : length a.from ≡ 8 = search rules in stage_unknown a.from c.loop-i.i (omega (
-      arith,
-      h,
-    )) c.if-from-i-gt-LAST_STAGE.true ∙ c.loop-i.invariant.1
+    let h : length a.from ≡ 8 = search rules in
+    stage_unknown a.from c.loop-i.i (omega (arith, h)) (omega (arith, c.if-from-i-gt-LAST_STAGE.true)) ∙ c.loop-i.invariant.1
 
 pub loop-i-preserved : goal.loop-i-preserved
 loop-i-preserved c =
@@ -23,7 +21,7 @@ loop-i-preserved c =
     let h : length a.from ≡ 8 = search rules in (
       search rules,
       stage_known a.from c.loop-i.i
-          (omega (arith, h)) c.if-from-i-gt-LAST_STAGE.false ∙ c.loop-i.invariant.1,
+          (omega (arith, h)) (omega (arith, c.if-from-i-gt-LAST_STAGE.false)) ∙ c.loop-i.invariant.1,
     )
 
 pub returns : goal.returns
