@@ -1,18 +1,17 @@
 -- Laws of the list of account keys.
 -- Assumes nothing.
-use mathlib.Core.Bool.{true, false}
+use mathlib.Core.Bool.{true}
 use mathlib.Core.List.{List, [], ◌∷◌, ◌++◌}
-use mathlib.Core.Path.{◌≡◌, ap}
-use Prim.Native.Nat.{ℕ, zero, suc, ◌+◌, ◌-◌, ◌≤◌, ◌<◌}
+use mathlib.Core.Path.{◌≡◌, refl, ap}
+use Prim.Native.Nat.{ℕ, zero, suc, ◌+◌, ◌≤◌, ◌<◌}
 use native.Mathlib.Nat.{le_refl, le_of_suc-le-suc, not-suc-le-zero}
 use native.Mathlib.Omega.{arith}
-use lib.ListN.{length, take, drop, set, get_or, replicate}
-use lib.Seq.{take-take, paste}
-use borrow.Author.Tests.{le-leb, lt-leb}
+use lib.ListN.{length, take, drop, set, get_or}
+use lib.Seq.{take-take}
+use Rattle.std.specs.List.{list_any}
+use Rattle.std.proofs.lemmas.Grind.{common_steps}
 use Rattle.laws.proofs.Choice.{or_right}
-use Rattle.laws.proofs.Lists.{drop_take_more, drop_take_all}
-use Rattle.laws.proofs.Padded.{take_padded, length_places, set_free_place, count_one_more, paste_one_less, count_one_less, one_less_within}
-use Rattle.laws.specs.Choice.{◌or◌}
+use Rattle.laws.proofs.Padded.{take_padded, length_places, set_free_place, count_one_more, one_less_within}
 use Rattle.laws.specs.Lists.{padded, All}
 use Rattle.account_keys.specs.Keys.{Valid, Sized, owned, Kept, limit, zero_key, held, kept, member, used, stored}
 use Rattle.account_keys.specs.declared.AccountKey.{AccountKey}
@@ -24,13 +23,10 @@ use Rattle.basics.specs.Bytes.{same}
 abbrev pub absent_key : AccountKey
 absent_key = record { bytes = [] }
 
-pub member_step : (l : List AccountKey) (n i : ℕ) (k : AccountKey) → i < n → n ≤ length l
-    → member (drop i (take n l)) k ≡ (same (get_or l i absent_key).bytes k.bytes or member
-    (drop (i + 1) (take n l)) k)
-member_step l n i k h j = rw (drop_take_more l n i absent_key h j)
-
-pub member_end : (l : List AccountKey) (n i : ℕ) (k : AccountKey) → n ≤ i → member (drop i (take n l)) k ≡ false
-member_end l n i k h = rw (drop_take_all l n i h)
+-- one of the keys is the same
+pub member_any : (l : List AccountKey) (k : AccountKey) → list_any (λ x. same x.bytes k.bytes) l ≡ member l k
+member_any [] k = refl
+member_any (x ∷ l) k = grind (arith, common_steps, member_any l k)
 
 -- the key at a place is held
 pub member_get : (l : List AccountKey) (i : ℕ) (z : AccountKey) → i < length l → member l (get_or l i z) ≡ true
@@ -67,34 +63,11 @@ kept_push ks k v h =
       count = count_one_more limit zero_key ks.keys ks.count v.few (keys_padded ks v) k i;
     }
 
--- what is copied from the second place on, of a full list
-pub kept_drop : (ks : AccountKeys) → Kept ks → limit ≤ ks.count
-    → ◌≡◌ {A = AccountKeys} (record {
-      keys = paste (replicate limit zero_key) 0 (drop 1 ks.keys)
-          (limit - 1);
-      count = limit - 1;
-    })
-    (kept (drop 1 (held ks)))
-kept_drop ks v h =
-    λ i. record {
-      keys = paste_one_less limit zero_key ks.keys ks.count v.few (keys_padded ks v) h i;
-      count = count_one_less limit zero_key ks.keys ks.count v.few (keys_padded ks v) h i;
-    }
-
 -- the three ways of an account key write
 module _ (ks : AccountKeys) (k : AccountKey) (v : Kept ks) where
   pub stored_held : member (held ks) k ≡ true → used (held ks) k ≡ stored (held ks) k
   unfolding stored
   stored_held e = rw e
-
-  pub stored_full : member (held ks) k ≡ false → limit ≤ ks.count → drop 1 (held ks) ++ (k ∷ []) ≡ stored
-      (held ks) k
-  unfolding stored
-  stored_full e h = rw (e, le-leb limit (length (held ks)) (rw (← count_held ks v) h))
-
-  pub stored_room : member (held ks) k ≡ false → ks.count < limit → held ks ++ (k ∷ []) ≡ stored (held ks) k
-  unfolding stored
-  stored_room e h = rw (e, lt-leb limit (length (held ks)) (rw (← count_held ks v) h))
 
   -- a full list without its first key has room
   pub Kept-drop : ks.count ≤ limit → Kept (kept (drop 1 (held ks))) × (length (drop 1 (held ks)) < limit)

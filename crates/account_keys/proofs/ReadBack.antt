@@ -10,6 +10,7 @@ use native.Mathlib.Omega.{arith}
 use lib.Dec.{leb, eqb}
 use lib.ListN.{length, take, drop, get_or, length-drop}
 use lib.Seq.{take_all, take-suc, take-length, take_at, drop-append-add, drop-drop, take-add, length-take-le}
+use Rattle.std.specs.Prelude.{if◌then◌else◌, None, Some}
 use borrow.Author.Tests.{leb-true, eqb-true, eqb-false}
 use Rattle.laws.proofs.All.{all_get, all_append}
 use Rattle.laws.proofs.Choice.{and_left, and_right}
@@ -18,11 +19,10 @@ use Rattle.laws.specs.BigEndian.{number2}
 use Rattle.laws.specs.Lists.{All}
 use Rattle.account_keys.specs.Keys.{Valid, Sized, limit, held, kept, owned}
 use Rattle.account_keys.specs.Promises.{WritesWithinMax, ReadsBackUnder, ReadsBack, OnlyWritings, ReadsValid, OlderStillRead, OlderRefuses}
-use Rattle.account_keys.specs.StoredList.{key_at, keys_in, key_bytes, well_sized, writing_under, writing, no_reading, reading_under, older_reading, reading, reading_of}
+use Rattle.account_keys.specs.StoredList.{key_at, keys_in, key_bytes, well_sized, writing_under, writing, reading_under, older_reading, reading, reading_of}
 use Rattle.account_keys.specs.declared.AccountKey.{AccountKey}
-use Rattle.account_keys.specs.declared.ListForm.TheVariants.{WellFormed, Malformed}
-use Rattle.account_keys.specs.declared.Reading.{Reading}
-use Rattle.basics.specs.Bytes.{sixteen_at}
+use Rattle.account_keys.specs.declared.AccountKeys.{AccountKeys}
+use Rattle.basics.specs.Bytes.{part}
 use Rattle.account_keys.proofs.Laws.{absent_key, held_kept, kept_valid, count_held}
 use Rattle.account_keys.proofs.StoredList.{key_bytes_snoc, length_writing, length_keys_in, reading_owned, sizes_agree, read_older, read_newer}
 
@@ -34,7 +34,7 @@ writes_within_max ks v =
 
 -- key i of the bytes of a list of keys
 key_bytes_at : (l : List AccountKey) → All Sized l → (i : ℕ) → i < length l
-    → sixteen_at (16 * i) (key_bytes l) ≡ (get_or l i absent_key).bytes
+    → part 16 (16 * i) (key_bytes l) ≡ (get_or l i absent_key).bytes
 unfolding key_bytes
 key_bytes_at [] p i h = absurd (not-suc-le-zero h)
 key_bytes_at (k ∷ ks) p zero h = take_at k.bytes (key_bytes ks) 16 p.0
@@ -46,7 +46,7 @@ module _ (version : ℕ) (l : List AccountKey) (p : All Sized l) where
   keyAt-writing : (i : ℕ) → i < length l → key_at (writing_under version l) i ≡ get_or l i absent_key
   unfolding writing_under
   keyAt-writing i h =
-      let e : sixteen_at (4 + 16 * i) (writing_under version l) ≡ (get_or l i absent_key).bytes =
+      let e : part 16 (4 + 16 * i) (writing_under version l) ≡ (get_or l i absent_key).bytes =
       rw (← drop-drop (16 * i) 4 (writing_under version l)) (key_bytes_at l p i h)
       in
       λ j. record { bytes = e j }
@@ -66,8 +66,7 @@ reads_back_under version most ks v h =
     let keys : keys_in w (length l) ≡ l = keysIn-writing version l v.sized (length l) (le_refl (length l))
     ∙ take-length l in
     sizes_agree version most w (omega (arith, long)) (omega (arith, long, few)) refl h long
-    ∙ ap reading_of keys ∙ reading_owned l v.known ∙ (λ i. record
-    { form = WellFormed; keys = sym v.canonical.whole i })
+    ∙ ap reading_of keys ∙ reading_owned l v.known ∙ ap (λ (x : AccountKeys). Some x) (sym v.canonical.whole)
   where
     regroup : (n : ℕ) → 2 + 16 * n + 2 ≡ 4 + 16 * n
     regroup n = omega arith
@@ -119,12 +118,6 @@ writing_keys_in version b p h e v s =
     rw (count, high, low, rest)
     (ap (λ (x : ℕ). get_or b 0 0 ∷ get_or b 1 0 ∷ x ∷ get_or b 3 0 ∷ drop 4 b) (sym v) ∙ sym (get_or4_front b 0 h))
 
-forms_differ : Malformed ≡ WellFormed → ⊥
-forms_differ e = let z : ◌≡◌ {A = ℕ} 0 1 = cc in omega arith
-
-reading_not_owned : (l : List AccountKey) → owned l ≡ false → (reading_of l).form ≡ Malformed
-reading_not_owned l e = rw e
-
 -- which tests a list that reads has passed
 record Passed (version most : ℕ) (b : List ℕ) : Type 0 where
   enough : 4 ≤ length b
@@ -149,47 +142,38 @@ module _ (version most : ℕ) (b : List ℕ) where
         whole = eqb-true _ _ t5;
       }
 
-  -- how a list reads, by the two tests
-  reading-sized : well_sized version most b ≡ true → reading_under version most b ≡ reading_of (keys_in b (get_or b 3 0))
-  unfolding reading_under
-  reading-sized e = rw e
-
-  reading-not-sized : well_sized version most b ≡ false → (reading_under version most b).form ≡ Malformed
-  unfolding reading_under
-  reading-not-sized e = rw e
-
   -- what a list that reads gives
-  module _ (f : (reading_under version most b).form ≡ WellFormed) where
-    -- it has well-formed sizes and owned keys
+  module _ {ks : AccountKeys} (f : reading_under version most b ≡ Some ks) where
+    -- it has well-formed sizes and owned keys, and these are what it reads as
     tests : (well_sized version most b ≡ true) × (owned (keys_in b (get_or b 3 0)) ≡ true)
-    tests = go (well_sized version most b) (owned (keys_in b (get_or b 3 0))) refl refl
+        × (ks ≡ kept (keys_in b (get_or b 3 0)))
+    unfolding reading_under
+    tests = go (well_sized version most b) (owned (keys_in b (get_or b 3 0))) refl refl f
       where
         go : (s o : Bool) → well_sized version most b ≡ s → owned (keys_in b (get_or b 3 0)) ≡ o
+            → (if s then (if o then Some (kept (keys_in b (get_or b 3 0))) else None) else None) ≡ Some ks
             → (well_sized version most b ≡ true) × (owned (keys_in b (get_or b 3 0)) ≡ true)
-        go true true p q = (p, q)
-        go true false p q = absurd (forms_differ (sym (ap (λ (r : Reading). r.form) (reading-sized p) ∙ reading_not_owned
-            (keys_in b (get_or b 3 0)) q) ∙ f))
-        go false o p q = absurd (forms_differ (sym (reading-not-sized p) ∙ f))
+            × (ks ≡ kept (keys_in b (get_or b 3 0)))
+        go true true p q r = (p, q, cc)
+        go true false p q r = cc
+        go false o p q r = cc
 
     sizes : Passed version most b
     sizes = passed tests.0
 
-    keys-are : (reading_under version most b).keys ≡ kept (keys_in b (get_or b 3 0))
-    keys-are = ap (λ (x : Reading). x.keys) (reading-sized tests.0 ∙ reading_owned (keys_in b (get_or b 3 0)) tests.1)
-
-    reads-valid-under : most ≤ limit → Valid (reading_under version most b).keys
+    reads-valid-under : most ≤ limit → Valid ks
     reads-valid-under h =
         let few : length (keys_in b (get_or b 3 0)) ≤ limit = omega (arith, length_keys_in b (get_or b 3 0), sizes.few) in
-        rw keys-are
+        rw tests.2
         (kept_valid (keys_in b (get_or b 3 0)) few (keys_in_sized b (get_or b 3 0) (omega (arith, sizes.whole))) tests.1)
 
-    reads_whole : All (λ x. x < 256) b → writing_under version (held (reading_under version most b).keys) ≡ b
+    reads_whole : All (λ x. x < 256) b → writing_under version (held ks) ≡ b
     reads_whole p =
-        rw (keys-are, held_kept (keys_in b (get_or b 3 0)))
+        rw (tests.2, held_kept (keys_in b (get_or b 3 0)))
         (writing_keys_in version b p sizes.enough sizes.sizes sizes.same_version sizes.whole)
 
 pub only_writings : OnlyWritings
-only_writings version most b p f = reads_whole version most b f p
+only_writings version most b ks p f = reads_whole version most b f p
 
 -- ---- the two versions
 
@@ -200,17 +184,13 @@ pub older_refuses : OlderRefuses
 unfolding reading_under
 older_refuses b v = go (well_sized 0x01 5 b) refl
   where
-    go : (x : Bool) → well_sized 0x01 5 b ≡ x → older_reading b ≡ no_reading
+    go : (x : Bool) → well_sized 0x01 5 b ≡ x → older_reading b ≡ None
     go true e = absurd (omega (arith, v, (passed 0x01 5 b e).same_version))
     go false e = rw e
 
 pub reads_valid : ReadsValid
-reads_valid b = go (eqb (get_or b 2 0) 0x01) refl
+reads_valid b ks = go (eqb (get_or b 2 0) 0x01) refl
   where
-    under : (version most : ℕ) → most ≤ limit → reading_under version most b ≡ reading b → (reading b).form ≡ WellFormed
-        → Valid (reading b).keys
-    under version most h e = λ f. rw (← e) (reads-valid-under version most b (ap (λ (r : Reading). r.form) e ∙ f) h)
-
-    go : (x : Bool) → eqb (get_or b 2 0) 0x01 ≡ x → (reading b).form ≡ WellFormed → Valid (reading b).keys
-    go true e = under 0x01 5 (omega arith) (read_older b (eqb-true (get_or b 2 0) 0x01 e))
-    go false e = under 0x02 limit (le_refl limit) (read_newer b (eqb-false (get_or b 2 0) 0x01 e))
+    go : (x : Bool) → eqb (get_or b 2 0) 0x01 ≡ x → reading b ≡ Some ks → Valid ks
+    go true e f = reads-valid-under 0x01 5 b (read_older b (eqb-true (get_or b 2 0) 0x01 e) ∙ f) (omega arith)
+    go false e f = reads-valid-under 0x02 limit b (read_newer b (eqb-false (get_or b 2 0) 0x01 e) ∙ f) (le_refl limit)

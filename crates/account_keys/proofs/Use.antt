@@ -99,10 +99,6 @@ module _ (l : List AccountKey) (k : AccountKey) where
   unfolding used
   use_held e = rw e
 
-  pub use_absent : member l k ≡ false → l ≡ used l k
-  unfolding used
-  use_absent e = rw e
-
   use-others : without (used l k) k ≡ without l k
   unfolding used
   use-others = go (member l k)

@@ -1,13 +1,13 @@
 -- The other keys of a list, beside one.
 -- Assumes nothing.
 use mathlib.Core.Bool.{Bool, true, false}
-use mathlib.Core.List.{List, [], ◌∷◌, ◌++◌, append-nil}
+use mathlib.Core.List.{List, [], ◌∷◌, ◌++◌}
 use mathlib.Core.Path.{◌≡◌, refl, sym, ap}
 use Prim.Native.Nat.{ℕ, ◌+◌, ◌≤◌, ◌<◌}
 use native.Mathlib.Numerals.{add-one}
 use native.Mathlib.Omega.{arith}
 use lib.ListN.{length, take, get_or}
-use lib.Seq.{take-suc, get_or-take, length-take-le}
+use lib.Seq.{take-suc, length-take-le}
 use Rattle.laws.proofs.Choice.{true_is, or_false_left, or_false_right}
 use Rattle.laws.specs.Choice.{◌or◌}
 use Rattle.std.specs.Prelude.{if◌then◌else◌}
@@ -45,14 +45,11 @@ without_append (x ∷ xs) m k = rw (without_append xs m k) (go (same x.bytes k.b
     go false = refl
 
 -- a turn of the loop that leaves the key out
-pub without_more : (l : List AccountKey) (i n : ℕ) (k : AccountKey) → i < n → n ≤ length l
-    → without (take i (take n l)) k ++ without (get_or l i absent_key ∷ []) k ≡ without (take (i + 1) (take n l)) k
-without_more l i n k h j =
-    let long : length (take n l) ≡ n = length-take-le n l j in
-    let next : take (i + 1) (take n l) ≡ take i (take n l) ++ (get_or l i absent_key ∷ []) =
-    rw (add-one, take-suc (take n l) i absent_key (omega arith), get_or-take n l i absent_key h)
-    in
-    rw next (sym (without_append (take i (take n l)) (get_or l i absent_key ∷ []) k))
+pub without_more : (l : List AccountKey) (i : ℕ) (k : AccountKey) → i < length l
+    → without (take i l) k ++ without (get_or l i absent_key ∷ []) k ≡ without (take (i + 1) l) k
+without_more l i k h =
+    let next : take (i + 1) l ≡ take i l ++ (get_or l i absent_key ∷ []) = rw (add-one, take-suc l i absent_key h) in
+    rw next (sym (without_append (take i l) (get_or l i absent_key ∷ []) k))
 
 -- there are no more than before
 pub without_within : (l : List AccountKey) (k : AccountKey) → length (without l k) ≤ length l
@@ -74,15 +71,6 @@ without_fewer (x ∷ xs) k e = go (same x.bytes k.bytes) e (without_fewer xs k)
     go false h r = omega (arith, r h)
 
 -- ---- as the functions need it
-
--- the key that is left out, and another one
-module _ (ks : AccountKeys) (k absent : AccountKey) where
-  pub left_out : Kept ks → same k.bytes absent.bytes ≡ true → ks ≡ kept (held ks ++ without (k ∷ []) absent)
-  left_out v e = rw (e, append-nil (held ks)) v.whole
-
-  pub not_left_out : same k.bytes absent.bytes ≡ false
-      → kept (held ks ++ (k ∷ [])) ≡ kept (held ks ++ without (k ∷ []) absent)
-  not_left_out e = rw e
 
 -- what was collected after i turns has room for one more
 pub others_kept : (ks : AccountKeys) (k : AccountKey) (i : ℕ) → Kept ks → i < ks.count

@@ -1,14 +1,13 @@
 -- What is proved of the keys and the stored list besides the functions' contracts: proofs/Use.antt, Order.antt,
 -- Storing.antt and ReadBack.antt.
 -- Assumes nothing.
-use Rattle.std.specs.Prelude.{Bool, true, false, ◌≡◌, ℕ, ◌-◌, ◌≤◌, ◌<◌, length, get_or, if◌then◌else◌}
+use Rattle.std.specs.Prelude.{Bool, true, false, ◌≡◌, ℕ, ◌-◌, ◌≤◌, ◌<◌, length, get_or, if◌then◌else◌, None, Some}
 use mathlib.Core.List.{List, [], ◌∷◌, ◌++◌, Permᴰ}
 use Rattle.laws.specs.Lists.{All}
 use Rattle.account_keys.specs.Keys.{Valid, Sized, limit, zero_key, held, kept, member, without, used, owned, stored}
-use Rattle.account_keys.specs.StoredList.{stored_list_max, writing_under, writing, no_reading, reading_under, older_reading, reading}
+use Rattle.account_keys.specs.StoredList.{stored_list_max, writing_under, writing, reading_under, older_reading, reading}
 use Rattle.account_keys.specs.declared.AccountKey.{AccountKey}
 use Rattle.account_keys.specs.declared.AccountKeys.{AccountKeys}
-use Rattle.account_keys.specs.declared.ListForm.TheVariants.{WellFormed}
 use Rattle.basics.specs.Bytes.{same}
 
 -- document 02 (ii): "the key moves to the end". The same keys are held (`List.Permᴰ` is the library's "the same elements, in any
@@ -64,22 +63,22 @@ WritesWithinMax = (ks : AccountKeys) → Valid ks → length (writing (held ks))
 abbrev pub ReadsBackUnder : Type 0
 ReadsBackUnder =
     (version most : ℕ) (ks : AccountKeys) → Valid ks → length (held ks) ≤ most
-    → reading_under version most (writing_under version (held ks)) ≡ record { form = WellFormed; keys = ks }
+    → reading_under version most (writing_under version (held ks)) ≡ Some ks
 
 -- so of what is written now
 abbrev pub ReadsBack : Type 0
 ReadsBack =
-    (ks : AccountKeys) → Valid ks → reading (writing (held ks)) ≡ record { form = WellFormed; keys = ks }
+    (ks : AccountKeys) → Valid ks → reading (writing (held ks)) ≡ Some ks
 
 -- a list that reads under a version is that version's writing of what it reads as
 abbrev pub OnlyWritings : Type 0
 OnlyWritings =
-    (version most : ℕ) (b : List ℕ) → All (λ x. x < 256) b → (reading_under version most b).form ≡ WellFormed
-    → writing_under version (held (reading_under version most b).keys) ≡ b
+    (version most : ℕ) (b : List ℕ) (ks : AccountKeys) → All (λ x. x < 256) b → reading_under version most b ≡ Some ks
+    → writing_under version (held ks) ≡ b
 
 -- whatever reads is valid
 abbrev pub ReadsValid : Type 0
-ReadsValid = (b : List ℕ) → (reading b).form ≡ WellFormed → Valid (reading b).keys
+ReadsValid = (b : List ℕ) (ks : AccountKeys) → reading b ≡ Some ks → Valid ks
 
 -- document 02 (vi): "Version 0x01 is still read, with at most 5": its lists read, or are refused, as they were before
 abbrev pub OlderStillRead : Type 0
@@ -87,7 +86,7 @@ OlderStillRead = (b : List ℕ) → get_or b 2 0 ≡ 0x01 → reading b ≡ olde
 
 -- "Old firmware given a 0x02 list answers 14", and so given any list that is written now
 abbrev pub OlderRefuses : Type 0
-OlderRefuses = (b : List ℕ) → get_or b 2 0 ≡ 0x02 → older_reading b ≡ no_reading
+OlderRefuses = (b : List ℕ) → get_or b 2 0 ≡ 0x02 → older_reading b ≡ None
 
 -- an account key write keeps the list valid
 abbrev pub StoresValid : Type 0

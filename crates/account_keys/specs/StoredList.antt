@@ -1,14 +1,13 @@
 -- Document 01, "Stored list": how the account keys are written to memory that lasts, and read back; document 02 (vi): the list's two
 -- versions.
 -- Assumes nothing.
-use Rattle.std.specs.Prelude.{Bool, List, [], ◌∷◌, ◌++◌, ℕ, zero, suc, ◌+◌, ◌-◌, ◌*◌, leb, eqb, length, get_or, if◌then◌else◌}
+use Rattle.std.specs.Prelude.{Bool, List, [], ◌∷◌, ◌++◌, ℕ, zero, suc, ◌+◌, ◌-◌, ◌*◌, leb, eqb, length, get_or, if◌then◌else◌, Option, None, Some}
 use Rattle.laws.specs.BigEndian.{bytes, number2}
 use Rattle.laws.specs.Choice.{◌and◌}
 use Rattle.account_keys.specs.Keys.{limit, kept, owned}
 use Rattle.account_keys.specs.declared.AccountKey.{AccountKey}
-use Rattle.account_keys.specs.declared.ListForm.TheVariants.{WellFormed, Malformed}
-use Rattle.account_keys.specs.declared.Reading.{Reading}
-use Rattle.basics.specs.Bytes.{sixteen_at}
+use Rattle.account_keys.specs.declared.AccountKeys.{AccountKeys}
+use Rattle.basics.specs.Bytes.{part}
 
 -- "n keys of 16 bytes", one after the other
 unfoldable pub key_bytes : List AccountKey → List ℕ
@@ -30,7 +29,7 @@ stored_list_max = 4 + 16 * limit
 
 -- key i of a stored list, counted from 0
 abbrev pub key_at : List ℕ → ℕ → AccountKey
-key_at b i = record { bytes = sixteen_at (4 + 16 * i) b }
+key_at b i = record { bytes = part 16 (4 + 16 * i) b }
 
 -- its first n keys
 unfoldable pub keys_in : List ℕ → ℕ → List AccountKey
@@ -47,21 +46,18 @@ well_sized version most b =
     and leb (get_or b 3 0) most
     and eqb (length b) (4 + 16 * get_or b 3 0)
 
-abbrev pub no_reading : Reading
-no_reading = record { form = Malformed; keys = kept [] }
-
 -- "a key not starting with 0x04, a key twice" is malformed
-abbrev pub reading_of : List AccountKey → Reading
-reading_of l = if owned l then record { form = WellFormed; keys = kept l } else no_reading
+abbrev pub reading_of : List AccountKey → Option AccountKeys
+reading_of l = if owned l then Some (kept l) else None
 
 -- a list is read whole, or not at all
-unfoldable pub reading_under : ℕ → ℕ → List ℕ → Reading
-reading_under version most b = if well_sized version most b then reading_of (keys_in b (get_or b 3 0)) else no_reading
+unfoldable pub reading_under : ℕ → ℕ → List ℕ → Option AccountKeys
+reading_under version most b = if well_sized version most b then reading_of (keys_in b (get_or b 3 0)) else None
 
 -- document 01's reader, and so that of firmware before request (vi)
-abbrev pub older_reading : List ℕ → Reading
+abbrev pub older_reading : List ℕ → Option AccountKeys
 older_reading b = reading_under 0x01 5 b
 
 -- document 02 (vi): "Version 0x01 is still read, with at most 5"; "version 0x02, with count up to 10"
-unfoldable pub reading : List ℕ → Reading
+unfoldable pub reading : List ℕ → Option AccountKeys
 reading b = if eqb (get_or b 2 0) 0x01 then older_reading b else reading_under 0x02 limit b

@@ -6,9 +6,9 @@ ghost use Rattle.std.specs.Prelude.{◌≡◌, [], ◌∷◌, ◌++◌, ◌+◌,
 ghost use Rattle.basics.specs.Output.{report_of, placed};
 ghost use Rattle.account_keys.specs.Keys as rule;
 ghost use Rattle.account_keys.specs.Keys.{Valid, Kept, limit, held, kept, member, stored};
-ghost use Rattle.account_keys.specs.StoredList.{key_bytes, keys_in, no_reading, reading_of, reading_under, reading, writing};
+ghost use Rattle.account_keys.specs.StoredList.{key_bytes, keys_in, reading_of, reading_under, reading, writing};
 
-use basics::{Answer, Report};
+use basics::Answer;
 
 // The most keys that are held.
 pub const LIMIT: usize = 10;
@@ -38,20 +38,6 @@ pub struct AccountKeys {
     pub count: usize,
 }
 
-// Whether a stored list could be read.
-#[derive(Clone, Copy)]
-pub enum ListForm {
-    WellFormed,
-    Malformed,
-}
-
-// That, and the keys it held: none if it was malformed.
-#[derive(Clone, Copy)]
-pub struct Reading {
-    pub form: ListForm,
-    pub keys: AccountKeys,
-}
-
 impl AccountKeys {
     pub fn none() -> AccountKeys
         ensures { result ≡ kept [] }
@@ -66,19 +52,11 @@ impl AccountKeys {
         requires { Kept self }
         ensures { result ≡ member (held self) key }
     {
-        let n = self.count;
-        let mut i = 0;
-        while i < n {
-            let k = self.keys[i];
-            if basics::same(&k.bytes, &key.bytes) {
-                return true;
-            }
-            i += 1;
-        }
-        false
+        among(&self.keys[..self.count], key)
     }
 
     // The keys after an account key write: one that is held is used; for a new one, which goes last, a full list loses its first.
+    #[tactic(auto, unfolding(crate::specs::Keys::stored))]
     pub fn store(self, key: AccountKey) -> AccountKeys
         requires { Kept self }
         ensures { result ≡ kept (stored (held self) key) }
@@ -86,15 +64,14 @@ impl AccountKeys {
         if self.holds(key) {
             return self.used(key);
         }
-        let n = self.count;
-        if LIMIT <= n {
-            let rest = self.without_first();
-            return rest.push(key);
+        if LIMIT <= self.count {
+            return self.without_first().push(key);
         }
         self.push(key)
     }
 
     // A held key moved to the end; one that is not held moves nothing.
+    #[tactic(auto, unfolding(crate::specs::Keys::used))]
     pub fn used(self, key: AccountKey) -> AccountKeys
         requires { Kept self }
         ensures { result ≡ kept (rule.used (held self) key) }
@@ -102,8 +79,7 @@ impl AccountKeys {
         if !self.holds(key) {
             return self;
         }
-        let others = self.without(key);
-        others.push(key)
+        self.without(key).push(key)
     }
 
     // The other keys, in their order.
@@ -111,14 +87,9 @@ impl AccountKeys {
         requires { Kept self }
         ensures { result ≡ kept (rule.without (held self) key) }
     {
-        let n = self.count;
         let mut others = AccountKeys::none();
-        let mut i = 0;
-        while i < n {
-            let k = self.keys[i];
-            let more = others.push_unless(k, key);
-            others = more;
-            i += 1;
+        for held in &self.keys[..self.count] {
+            others = others.push_unless(*held, key);
         }
         others
     }
@@ -139,9 +110,8 @@ impl AccountKeys {
         requires { Kept self × (self.count < limit) }
         ensures { result ≡ kept (held self ++ (key ∷ [])) }
     {
-        let n = self.count;
-        self.keys[n] = key;
-        self.count = n + 1;
+        self.keys[self.count] = key;
+        self.count += 1;
         self
     }
 
@@ -150,18 +120,13 @@ impl AccountKeys {
         requires { Kept self × (limit ≤ self.count) }
         ensures { result ≡ kept (drop 1 (held self)) }
     {
-        let mut rest = AccountKeys::none();
-        let mut i = 0;
-        while i < LAST {
-            rest.keys[i] = self.keys[i + 1];
-            i += 1;
-        }
-        rest.count = LAST;
-        rest
+        let mut keys = AccountKeys::none().keys;
+        keys[..LAST].copy_from_slice(&self.keys[1..]);
+        AccountKeys { keys, count: LAST }
     }
 
     // The stored list written to `out`, if all of it has room there.
-    pub fn write(self, out: &mut [u8]) -> Report
+    pub fn write(self, out: &mut [u8]) -> Result<usize, Answer>
         requires { Valid self }
         ensures value { result ≡ report_of (writing (held self)) out.old }
         ensures out_after { out.new ≡ placed (writing (held self)) out.old }
@@ -169,43 +134,39 @@ impl AccountKeys {
         let n = self.count;
         let rest = 2 + 16 * n;
         if out.len() < rest + 2 {
-            return Report {
-                answer: Answer::OutputTooShort,
-                length: 0,
-            };
+            return Err(Answer::OutputTooShort);
         }
-        out[0] = ((rest >> 8) % 256) as u8;
-        out[1] = (rest % 256) as u8;
-        out[2] = NEWER;
-        out[3] = (n % 256) as u8;
+        let [high, low] = (rest as u16).to_be_bytes();
+        out[..4].copy_from_slice(&[high, low, NEWER, n as u8]);
         self.write_keys(&mut out[4..]);
-        Report {
-            answer: Answer::Taken,
-            length: rest + 2,
-        }
+        Ok(rest + 2)
     }
 
     fn write_keys(self, out: &mut [u8])
         requires { Valid self × (16 * self.count ≤ length out.old) }
         ensures { out.new ≡ key_bytes (held self) ++ drop (16 * self.count) out.old }
     {
-        let n = self.count;
-        let mut i = 0;
-        while i < n {
-            let key = self.keys[i];
-            let block = key.bytes;
-            basics::put(out, 16 * i, block);
-            i += 1;
+        for (i, key) in self.keys[..self.count].iter().enumerate() {
+            basics::copy(out, 16 * i, &key.bytes);
         }
     }
 }
 
+// Whether a key is one of these.
+fn among(keys: &[AccountKey], key: AccountKey) -> bool
+    ensures { result ≡ member keys.now key }
+{
+    keys.iter()
+        .any(|held| basics::same(&held.bytes, &key.bytes))
+}
+
 // The keys of a stored list, of any length and any bytes.
-pub fn read(src: &[u8]) -> Reading
+#[tactic(auto, unfolding(crate::specs::StoredList::reading, crate::specs::StoredList::reading_under, crate::specs::StoredList::well_sized))]
+pub fn read(src: &[u8]) -> Option<AccountKeys>
     ensures { result ≡ reading src.now }
 {
     if src.len() < 4 {
-        return malformed();
+        return None;
     }
     if src[2] == OLDER {
         return read_under(src, OLDER, OLDER_LIMIT);
@@ -214,76 +175,35 @@ pub fn read(src: &[u8]) -> Reading
 }
 
 // The keys of a list of one version, with at most `most` keys.
-fn read_under(src: &[u8], version: u8, most: usize) -> Reading
+#[tactic(auto, unfolding(crate::specs::StoredList::reading_under, crate::specs::StoredList::well_sized))]
+fn read_under(src: &[u8], version: u8, most: usize) -> Option<AccountKeys>
     requires { (4 ≤ length src.now) × (most ≤ limit) }
     ensures { result ≡ reading_under version most src.now }
 {
-    if (src[0] as usize) * 256 + (src[1] as usize) != src.len() - 2 {
-        return malformed();
-    }
-    if src[2] != version {
-        return malformed();
-    }
+    let length = u16::from_be_bytes([src[0], src[1]]) as usize;
     let n = src[3] as usize;
-    if most < n {
-        return malformed();
-    }
-    if src.len() != 4 + 16 * n {
-        return malformed();
+    if length != src.len() - 2 || src[2] != version || most < n || src.len() != 4 + 16 * n {
+        return None;
     }
     read_keys(src, n)
 }
 
-// What a list that can't be read is read as.
-pub fn malformed() -> Reading
-    ensures { result ≡ no_reading }
-{
-    Reading {
-        form: ListForm::Malformed,
-        keys: AccountKeys::none(),
-    }
-}
-
-// Whether a key is among the first `n` of a list: compared with the list's bytes, so that no list of keys is copied.
-fn occurs(src: &[u8], n: usize, key: AccountKey) -> bool
-    requires { (n ≤ limit) × (4 + 16 * n ≤ length src.now) }
-    ensures { result ≡ member (keys_in src.now n) key }
-{
-    let mut i = 0;
-    while i < n {
-        let block = basics::sixteen(src, 4 + 16 * i);
-        if basics::same(&block, &key.bytes) {
-            return true;
-        }
-        i += 1;
-    }
-    false
-}
-
 // The `n` keys after the header, each checked against those before it.
-fn read_keys(src: &[u8], n: usize) -> Reading
+fn read_keys(src: &[u8], n: usize) -> Option<AccountKeys>
     requires { (n ≤ limit) × (length src.now ≡ 4 + 16 * n) }
     ensures { result ≡ reading_of (keys_in src.now n) }
 {
     let mut keys = AccountKeys::none();
-    let mut i = 0;
-    while i < n {
-        let block = basics::sixteen(src, 4 + 16 * i);
-        let first = block[0];
-        let key = AccountKey { bytes: block };
-        if first != 0x04 {
-            return malformed();
-        }
-        if occurs(src, i, key) {
-            return malformed();
+    for i in 0..n {
+        let key = AccountKey {
+            bytes: basics::part(src, 4 + 16 * i),
+        };
+        if key.bytes[0] != 0x04 || among(&keys.keys[..i], key) {
+            return None;
         }
         // stored here, and not by `push`: that would copy the list at every key
         keys.keys[i] = key;
-        i += 1;
-        keys.count = i;
+        keys.count = i + 1;
     }
-    Reading {
-        form: ListForm::WellFormed,
-        keys: keys,
-    }
+    Some(keys)
 }

@@ -1,23 +1,18 @@
 -- Laws of the packet: what the copies, the counter mode and the tag leave is the packet of the name.
 -- Assumes nothing.
-use mathlib.Core.Bool.{Bool, true, false}
 use mathlib.Core.List.{List, [], ◌++◌, append_assoc}
 use mathlib.Core.Path.{◌≡◌, refl, sym, ap, ap₂, ◌∙◌}
-use Prim.Native.Nat.{ℕ, ◌+◌, ◌-◌, ◌≤◌}
-use lib.Dec.{leb}
-use lib.ListN.{length, take, drop, length-append, length-drop, take-append-drop}
-use lib.Seq.{take_at, drop_at, length-take-le, paste}
-use borrow.Author.Tests.{leb-true}
+use Prim.Native.Nat.{ℕ, ◌+◌, ◌≤◌}
+use lib.ListN.{length, take, drop, length-append, take-append-drop}
+use lib.Seq.{drop_at, length-take-le, paste}
 use borrow.Rule.Slice.PartMut.{mid_of, put_mid}
-use Rattle.laws.proofs.Choice.{and_left, and_right, if_holds}
-use Rattle.laws.proofs.Lists.{paste_at, take_drop_rest}
+use Rattle.laws.proofs.Lists.{paste_at}
 use Rattle.laws.proofs.Parts.{part_read, part_written, part_copied}
 use Rattle.laws.specs.Choice.{◌and◌}
-use Rattle.basics.specs.Bytes.{same}
-use Rattle.names.proofs.ValidNames.{reading_valid, no_name_valid}
-use Rattle.names.specs.Name.{no_name, reading, Valid}
+use Rattle.std.specs.Prelude.{Bool, true, false, if◌then◌else◌, None, Some}
+use Rattle.names.proofs.ValidNames.{reading_valid}
+use Rattle.names.specs.Name.{Valid, reading}
 use Rattle.names.specs.declared.Name.{Name}
-use Rattle.names.specs.declared.NameReading.{NameReading}
 use Rattle.additional_data.specs.CounterMode.{counter_mode}
 use Rattle.additional_data.specs.Packet.{tag, sealed, opened, packet_sized, tag_fits, nonce_in}
 use Rattle.additional_data.proofs.Laws.{length_counter_mode, length_tag}
@@ -84,53 +79,12 @@ module _ (key nonce text o : List ℕ) (eight : length nonce ≡ 8) (room : 8 �
 
 -- ---- opening
 
-module _ (packet : List ℕ) where
-  pub sized_least : packet_sized packet ≡ true → 16 ≤ length packet
-  sized_least e = leb-true 16 (length packet) (and_left (leb 16 (length packet)) (leb (length packet) 80) e)
-
-  pub sized_most : packet_sized packet ≡ true → length packet ≤ 80
-  sized_most e = leb-true (length packet) 80 (and_right (leb 16 (length packet)) (leb (length packet) 80) e)
-
-  module _ (key : List ℕ) where
-    -- what the tag is made of, lent from its place to the end
-    pub tag_compared : {t : List ℕ} {s : Bool} → packet_sized packet ≡ true → t ≡ tag key (mid_of 8 (length packet - 8) packet)
-        → s ≡ same (take 8 packet) t → s ≡ (packet_sized packet and tag_fits key packet)
-    tag_compared e f g = rw (g, f, take_drop_rest 8 packet, e)
-
-    pub opened_none : {n : Name} → (packet_sized packet and tag_fits key packet) ≡ false → n ≡ no_name
-        → record { good = false; name = n } ≡ opened key packet
-    unfolding opened
-    opened_none e f = rw (e, f)
-
-    pub opened_read : {r : NameReading} → (packet_sized packet and tag_fits key packet) ≡ true
-        → r ≡ reading (counter_mode key (nonce_in packet) (drop 16 packet)) → r ≡ opened key packet
-    unfolding opened
-    opened_read e f = rw e f
-
-  -- the data of a packet, copied to the front of z and put under the counter mode there
-  module _ (z : List ℕ) {y : List ℕ} (copied : y ≡ paste z 0 (mid_of 16 (length packet - 16) packet)
-      (length (mid_of 16 (length packet - 16) packet))) where
-    pub data_copied : take (length packet - 16) y ≡ drop 16 packet
-    data_copied =
-        let all : mid_of 16 (length packet - 16) packet ≡ drop 16 packet = take_drop_rest 16 packet in
-        let y-is : y ≡ drop 16 packet ++ drop (length packet - 16) z =
-        copied ∙ rw (all, length-drop 16 packet) (paste_at [] z (drop 16 packet) 0 (length packet - 16) refl (length-drop 16 packet))
-        in
-        rw y-is (take_at (drop 16 packet) (drop (length packet - 16) z) (length packet - 16) (length-drop 16 packet))
-
-    module _ (key nonce : List ℕ) {p : List ℕ} (made : p ≡ counter_mode key nonce (take (length packet - 16) y)) where
-      pub data_made : p ≡ counter_mode key nonce (drop 16 packet)
-      data_made = made ∙ ap (counter_mode key nonce) data_copied
-
-      pub data_length : length p ≡ length packet - 16
-      data_length = ap length data_made ∙ length_counter_mode key nonce (drop 16 packet) ∙ length-drop 16 packet
-
-      pub data_read : take (length packet - 16) (p ++ drop (length packet - 16) y) ≡ counter_mode key nonce (drop 16 packet)
-      data_read = take_at p (drop (length packet - 16) y) (length packet - 16) data_length ∙ data_made
-
--- a packet is opened to a valid name, the empty one where it is refused
-pub opened_valid : (key packet : List ℕ) → Valid (opened key packet).name
+-- a packet is opened to a valid name
+pub opened_valid : (key packet : List ℕ) {n : Name} → opened key packet ≡ Some n → Valid n
 unfolding opened
-opened_valid key packet =
-    if_holds (λ (r : NameReading). Valid r.name) (packet_sized packet and tag_fits key packet)
-    (reading_valid (counter_mode key (nonce_in packet) (drop 16 packet))) (λ e. no_name_valid)
+opened_valid key packet {n} = by-test (packet_sized packet and tag_fits key packet)
+  where
+    by-test : (b : Bool)
+        → (if b then reading (counter_mode key (nonce_in packet) (drop 16 packet)) else None) ≡ Some n → Valid n
+    by-test true h = reading_valid (counter_mode key (nonce_in packet) (drop 16 packet)) h
+    by-test false h = cc

@@ -10,6 +10,7 @@ use lib.Dec.{leb}
 use lib.ListN.{length, take, drop, get_or, length-append}
 use lib.Seq.{take_at, drop_at, drop-drop}
 use borrow.Author.Tests.{le-leb, leb-true}
+use Rattle.std.specs.Prelude.{Some}
 use Rattle.laws.proofs.Choice.{and_left}
 use Rattle.laws.proofs.Filled.{length_tabulate, get_d_tabulate, tabulate_ext, tabulate_get_or}
 use Rattle.laws.proofs.Xor.{xor_cancel}
@@ -74,7 +75,7 @@ sealed_length = size
 
 opened_good : (key packet text : List ℕ) → 16 ≤ length packet → length packet ≤ 80 → tag_fits key packet ≡ true
     → counter_mode key (nonce_in packet) (drop 16 packet) ≡ text → is_name text ≡ true
-    → opened key packet ≡ record { good = true; name = name_of text }
+    → opened key packet ≡ Some (name_of text)
 unfolding opened
 opened_good key packet text low high fits undone name = rw (le-leb 16 (length packet) low, le-leb (length packet) 80 high, fits, undone, name)
 

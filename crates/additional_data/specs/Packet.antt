@@ -1,13 +1,12 @@
 -- Document 02 (i): the packet that carries a name.
 -- Assumes nothing.
-use Rattle.std.specs.Prelude.{Bool, List, ◌++◌, ℕ, ◌+◌, leb, length, take, drop, replicate, if◌then◌else◌}
+use Rattle.std.specs.Prelude.{Bool, List, ◌++◌, ℕ, ◌+◌, leb, length, take, drop, replicate, if◌then◌else◌, Option, None}
 use Rattle.laws.specs.Choice.{◌and◌}
 use Rattle.additional_data.specs.CounterMode.{counter_mode}
 use Rattle.basics.specs.Bytes.{same}
 use Rattle.hmac_sha256.specs.Hmac.{hmac}
-use Rattle.names.specs.Name.{reading, not_a_name, text_of}
+use Rattle.names.specs.Name.{reading, text_of}
 use Rattle.names.specs.declared.Name.{Name}
-use Rattle.names.specs.declared.NameReading.{NameReading}
 
 -- "The HMAC key is K and 48 zero bytes", "the first 8 bytes of HMAC-SHA256"
 abbrev pub tag : List ℕ → List ℕ → List ℕ
@@ -29,11 +28,11 @@ abbrev pub tag_fits : List ℕ → List ℕ → Bool
 tag_fits key packet = same (take 8 packet) (tag key (drop 8 packet))
 
 -- the name that a packet carries; "a wrong tag or bad UTF-8" carries none
-unfoldable pub opened : List ℕ → List ℕ → NameReading
+unfoldable pub opened : List ℕ → List ℕ → Option Name
 opened key packet =
     if packet_sized packet and tag_fits key packet
     then reading (counter_mode key (nonce_in packet) (drop 16 packet))
-    else not_a_name
+    else None
 
 -- the packet of a name has 16 bytes more
 abbrev pub packet_size : Name → ℕ

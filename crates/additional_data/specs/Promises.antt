@@ -1,6 +1,6 @@
 -- What a packet may be counted on for, as statements; proofs/ has a proof of each.
 -- Assumes nothing.
-use Rattle.std.specs.Prelude.{true, List, ◌≡◌, ℕ, ◌+◌, length}
+use Rattle.std.specs.Prelude.{true, Some, List, ◌≡◌, ℕ, ◌+◌, length}
 use Rattle.additional_data.specs.CounterMode.{counter_mode}
 use Rattle.additional_data.specs.Packet.{sealed, opened}
 use Rattle.names.specs.Name.{is_name, name_of}
@@ -17,4 +17,4 @@ SealedLength = (key nonce text : List ℕ) → length nonce ≡ 8 → length (se
 abbrev pub OpeningUndoesSealing : Type 0
 OpeningUndoesSealing =
     (key nonce text : List ℕ) → length nonce ≡ 8 → is_name text ≡ true
-    → opened key (sealed key nonce text) ≡ record { good = true; name = name_of text }
+    → opened key (sealed key nonce text) ≡ Some (name_of text)

@@ -14,7 +14,7 @@ ghost use Rattle.advertising.specs.Filter.{filter_size, number_at, with_number, 
 ghost use Rattle.advertising.specs.Payload as spec;
 
 use account_keys::{AccountKeys, LIMIT};
-use basics::{Address, Report};
+use basics::{Address, Answer};
 
 // The most bytes that a filter has: specs/Filter.antt, `filter_max`.
 pub const FILTER_MAX: usize = 6 * LIMIT / 5 + 3;
@@ -55,8 +55,8 @@ impl Beacon {
         ensures { result ≡ rule.started ble salt (held keys) }
     {
         Beacon {
-            ble: ble,
-            salt: salt,
+            ble,
+            salt,
             filter: built(keys, salt),
             pairing: false,
         }
@@ -68,22 +68,22 @@ impl Beacon {
         ensures { result ≡ rule.rotated self ble salt (held keys) }
     {
         Beacon {
-            ble: ble,
-            salt: salt,
+            ble,
+            salt,
             filter: built(keys, salt),
-            pairing: self.pairing,
+            ..self
         }
     }
 
     // Other keys, with the same salt.
-    pub fn with_keys(mut self, keys: AccountKeys) -> Beacon
+    pub fn with_keys(self, keys: AccountKeys) -> Beacon
         requires { Kept keys }
         ensures { result ≡ rule.with_keys self (held keys) }
     {
-        let salt = self.salt;
-        let filter = built(keys, salt);
-        self.filter = filter;
-        self
+        Beacon {
+            filter: built(keys, self.salt),
+            ..self
+        }
     }
 
     // The same if the keys have changed; their order alone shows in no bit.
@@ -91,57 +91,45 @@ impl Beacon {
         requires { Kept keys }
         ensures { result ≡ rule.refreshed self changed (held keys) }
     {
-        if !changed {
-            return self;
-        }
-        self.with_keys(keys)
+        if changed { self.with_keys(keys) } else { self }
     }
 
     // What the provider sends, written to `out` if all of it has room there; `count` is the number of keys.
-    pub fn payload(self, model: [u8; 3], count: usize, prompt: Prompt, out: &mut [u8]) -> Report
+    #[tactic(auto, unfolding(crate::specs::Payload::service_data))]
+    pub fn payload(
+        self,
+        model: [u8; 3],
+        count: usize,
+        prompt: Prompt,
+        out: &mut [u8],
+    ) -> Result<usize, Answer>
         requires { count ≤ limit }
         ensures value { result ≡ report_of (beacon_payload self model count prompt) out.old }
         ensures out_after { out.new ≡ placed (beacon_payload self model count prompt) out.old }
     {
         if self.pairing {
-            return model_payload(model, out);
+            write_structure(&model, out)
+        } else if count == 0 {
+            write_structure(&[0x00, 0x00], out)
+        } else {
+            keys_payload(count, self.filter, self.salt, prompt, out)
         }
-        if count == 0 {
-            return empty_payload(out);
-        }
-        let filter = self.filter;
-        let salt = self.salt;
-        keys_payload(count, filter, salt, prompt, out)
     }
 }
 
-// In pairing mode: the model ID.
-fn model_payload(model: [u8; 3], out: &mut [u8]) -> Report
-    ensures value { result ≡ report_of (spec.structure model) out.old }
-    ensures out_after { out.new ≡ placed (spec.structure model) out.old }
+// One AD structure, written to `out` if it has room there.
+fn write_structure(sent: &[u8], out: &mut [u8]) -> Result<usize, Answer>
+    requires { length sent.now < 253 }
+    ensures value { result ≡ report_of (spec.structure sent.now) out.old }
+    ensures out_after { out.new ≡ placed (spec.structure sent.now) out.old }
 {
-    if out.len() < 7 {
-        return basics::too_short();
+    let end = 4 + sent.len();
+    if out.len() < end {
+        return Err(Answer::OutputTooShort);
     }
-    begin(out, 6);
-    out[4] = model[0];
-    out[5] = model[1];
-    out[6] = model[2];
-    basics::written(7)
-}
-
-// With no key: an empty filter.
-fn empty_payload(out: &mut [u8]) -> Report
-    ensures value { result ≡ report_of (spec.structure (0x00 ∷ 0x00 ∷ [])) out.old }
-    ensures out_after { out.new ≡ placed (spec.structure (0x00 ∷ 0x00 ∷ [])) out.old }
-{
-    if out.len() < 6 {
-        return basics::too_short();
-    }
-    begin(out, 5);
-    out[4] = 0x00;
-    out[5] = 0x00;
-    basics::written(6)
+    out[..4].copy_from_slice(&[3 + sent.len() as u8, 0x16, 0x2C, 0xFE]);
+    out[4..end].copy_from_slice(sent);
+    Ok(end)
 }
 
 // With keys: their filter, copied in, and the salt.
@@ -151,33 +139,18 @@ fn keys_payload(
     salt: [u8; 2],
     prompt: Prompt,
     out: &mut [u8],
-) -> Report
+) -> Result<usize, Answer>
     requires { count ≤ limit }
     ensures value { result ≡ report_of (spec.structure (spec.keys_data (filter_size count) (take (filter_size count) filter) salt prompt)) out.old }
     ensures out_after { out.new ≡ placed (spec.structure (spec.keys_data (filter_size count) (take (filter_size count) filter) salt prompt)) out.old }
 {
     let s = filter_size(count);
-    let e = 6 + s;
-    if out.len() < e + 3 {
-        return basics::too_short();
-    }
-    begin(out, (s + 8) as u8);
-    out[4] = 0x00;
-    out[5] = (s * 16) as u8 + prompt_type(prompt);
-    basics::copy(out, 6, &filter[..s]);
-    put_salt(out, e, salt);
-    basics::written(e + 3)
-}
-
-// The four bytes before the service data; `rest` counts what follows the first.
-fn begin(out: &mut [u8], rest: u8)
-    requires { 4 ≤ length out.old }
-    ensures { out.new ≡ rest ∷ 0x16 ∷ 0x2C ∷ 0xFE ∷ drop 4 out.old }
-{
-    out[0] = rest;
-    out[1] = 0x16;
-    out[2] = 0x2C;
-    out[3] = 0xFE;
+    let mut sent = [0u8; FILTER_MAX + 5];
+    sent[1] = (s * 16) as u8 + prompt_type(prompt);
+    sent[2..s + 2].copy_from_slice(&filter[..s]);
+    sent[s + 2] = 0x21;
+    sent[s + 3..s + 5].copy_from_slice(&salt);
+    write_structure(&sent[..s + 5], out)
 }
 
 fn prompt_type(prompt: Prompt) -> u8
@@ -201,36 +174,19 @@ fn built(keys: AccountKeys, salt: [u8; 2]) -> [u8; FILTER_MAX]
     requires { Kept keys }
     ensures { result ≡ kept_filter (held keys) salt }
 {
-    let n = keys.count;
-    let s = filter_size(n);
     let mut filter = [0u8; FILTER_MAX];
-    build_filter(&mut filter[..s], keys, salt);
+    build_filter(&mut filter[..filter_size(keys.count)], keys, salt);
     filter
 }
 
 // One salt serves all keys.
-fn build_filter(out: &mut [u8], keys: AccountKeys, salt: [u8; 2])
-    requires { Kept keys × (length out.old ≡ filter_size keys.count) }
-    ensures { out.new ≡ filters.filter (held keys) salt }
+fn build_filter(filter: &mut [u8], keys: AccountKeys, salt: [u8; 2])
+    requires { Kept keys × (length filter.old ≡ filter_size keys.count) }
+    ensures { filter.new ≡ filters.filter (held keys) salt }
 {
-    clear(out);
-    let n = keys.count;
-    let mut i = 0;
-    while i < n {
-        let key = keys.keys[i];
-        let bytes = key.bytes;
-        set_bits(out, salted_hash(bytes, salt));
-        i += 1;
-    }
-}
-
-fn clear(out: &mut [u8])
-    ensures { out.new ≡ replicate (length out.old) 0 }
-{
-    let mut i = 0;
-    while i < out.len() {
-        out[i] = 0;
-        i += 1;
+    filter.fill(0);
+    for key in &keys.keys[..keys.count] {
+        set_bits(filter, salted_hash(key.bytes, salt));
     }
 }
 
@@ -238,24 +194,20 @@ fn salted_hash(key: [u8; 16], salt: [u8; 2]) -> [u8; 32]
     ensures { result ≡ sha256 (key ++ salt) }
 {
     let mut text = [0u8; 18];
-    basics::put(&mut text, 0, key);
-    text[16] = salt[0];
-    text[17] = salt[1];
+    text[16..].copy_from_slice(&salt);
+    text[..16].copy_from_slice(&key);
     sha256::digest(&text)
 }
 
 // The bits of one key's eight numbers.
-fn set_bits(out: &mut [u8], hash: [u8; 32])
-    requires { (0 < length out.old) × (length out.old < 256) }
-    ensures { out.new ≡ foldl (with_number (length out.old)) out.old (numbers hash) }
+fn set_bits(filter: &mut [u8], hash: [u8; 32])
+    requires { (0 < length filter.old) × (length filter.old < 256) }
+    ensures { filter.new ≡ foldl (with_number (length filter.old)) filter.old (numbers hash) }
 {
-    let s = out.len();
-    let mut i = 0;
-    while i < 8 {
+    let s = filter.len();
+    for i in 0..8 {
         let m = number_at(hash, i) % (8 * s);
-        let at = m / 8;
-        out[at] = out[at] | 1u8 << (m % 8);
-        i += 1;
+        filter[m / 8] |= 1 << (m % 8);
     }
 }
 
@@ -263,25 +215,5 @@ fn number_at(hash: [u8; 32], i: usize) -> usize
     requires { i < 8 }
     ensures { result ≡ number_at hash i }
 {
-    let at = 4 * i;
-    wide(hash[at]) * 0x1000000
-        + wide(hash[at + 1]) * 0x10000
-        + wide(hash[at + 2]) * 0x100
-        + wide(hash[at + 3])
-}
-
-fn wide(x: u8) -> usize
-    ensures { (result ≡ x) × (result < 256) }
-{
-    x as usize
-}
-
-// The salt's own header and the salt, behind the filter.
-fn put_salt(out: &mut [u8], at: usize, salt: [u8; 2])
-    requires { at + 3 ≤ length out.old }
-    ensures { out.new ≡ paste out.old at (0x21 ∷ salt) 3 }
-{
-    out[at] = 0x21;
-    out[at + 1] = salt[0];
-    out[at + 2] = salt[1];
+    u32::from_be_bytes(basics::part(&hash, 4 * i)) as usize
 }

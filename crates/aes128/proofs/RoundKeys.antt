@@ -1,7 +1,7 @@
 -- The round keys as words: each from the one before, and read where the code reads them.
 -- Assumes nothing.
 use mathlib.Core.Path.{◌≡◌, refl, sym, ◌∙◌, ap, ap₂}
-use mathlib.Core.List.{List, [], map}
+use mathlib.Core.List.{List, [], ◌∷◌, map}
 use Prim.Native.Nat.{ℕ, suc, ◌+◌, ◌-◌, ◌<◌}
 use native.Mathlib.Numerals.{add-one}
 use native.Mathlib.Omega.{arith}
@@ -16,59 +16,54 @@ use Rattle.aes128.specs.Field.{◌⊕◌, x_times}
 use Rattle.aes128.specs.KeyExpansion.{rot_word, sub_word, xor_word, x_power, rcon, word, round_key}
 use Rattle.aes128.specs.Steps.{doubled, next_round_key}
 use Rattle.aes128.specs.Words.{block_of}
-use Rattle.aes128.specs.declared.columns.Columns.{Columns}
 use Rattle.aes128.proofs.Blocks.{block_made}
 use Rattle.aes128.proofs.Schedule.{round_key_next}
 use Rattle.aes128.proofs.Words.{xor_bytes}
 
 -- the words of the next round key, in the code's order
-pub next_round_key_made : (k : Columns) (x n s : ℕ) → bytes 4 n ≡ rot_word (bytes 4 k.w3) → bytes 4 s ≡ sub_word (bytes 4 n)
-    → let a : ℕ = k.w0 ⊕ (s ⊕ x) in let b : ℕ = k.w1 ⊕ a in let c : ℕ = k.w2 ⊕ b in
-    block_of (record { w0 = a; w1 = b; w2 = c; w3 = k.w3 ⊕ c }) ≡ next_round_key (block_of k) (bytes 4 x)
+pub next_round_key_made : (k : List ℕ) (x n s : ℕ) → bytes 4 n ≡ rot_word (bytes 4 (get_or k 3 0)) → bytes 4 s ≡ sub_word (bytes 4 n)
+    → let a : ℕ = get_or k 0 0 ⊕ (s ⊕ x) in let b : ℕ = get_or k 1 0 ⊕ a in let c : ℕ = get_or k 2 0 ⊕ b in
+    block_of (a ∷ b ∷ c ∷ (get_or k 3 0 ⊕ c) ∷ []) ≡ next_round_key (block_of k) (bytes 4 x)
 unfolding block_of next_round_key
 next_round_key_made k x n s en es =
-    let a : ℕ = k.w0 ⊕ (s ⊕ x) in
-    let b : ℕ = k.w1 ⊕ a in
-    let c : ℕ = k.w2 ⊕ b in
-    let ea = plus k.w0 (s ⊕ x) (xor_bytes s x ∙ ap (λ l. xor_word l (bytes 4 x)) (es ∙ ap sub_word en)) in
-    let eb = plus k.w1 a ea in
-    let ec = plus k.w2 b eb in
-    block_made (record { w0 = a; w1 = b; w2 = c; w3 = k.w3 ⊕ c }) ea eb ec (plus k.w3 c ec)
+    let a : ℕ = get_or k 0 0 ⊕ (s ⊕ x) in
+    let b : ℕ = get_or k 1 0 ⊕ a in
+    let c : ℕ = get_or k 2 0 ⊕ b in
+    let ea = plus (get_or k 0 0) (s ⊕ x) (xor_bytes s x ∙ ap (λ l. xor_word l (bytes 4 x)) (es ∙ ap sub_word en)) in
+    let eb = plus (get_or k 1 0) a ea in
+    let ec = plus (get_or k 2 0) b eb in
+    block_made (a ∷ b ∷ c ∷ (get_or k 3 0 ⊕ c) ∷ []) ea eb ec (plus (get_or k 3 0) c ec)
   where
     plus : (v y : ℕ) {l : List ℕ} → bytes 4 y ≡ l → bytes 4 (v ⊕ y) ≡ xor_word (bytes 4 v) l
     plus v y e = xor_bytes v y ∙ ap (xor_word (bytes 4 v)) e
 
--- what the prover takes for an element past the end
-abbrev pub zeros : Columns
-zeros = record { w0 = 0; w1 = 0; w2 = 0; w3 = 0 }
-
 -- a round key's block, where the code reads the key
-block_at : (ks : List Columns) (i : ℕ) → i < length (map block_of ks) → block_of (get_or ks i zeros) ≡ get_or (map block_of ks) i []
-block_at ks i h = sym (get_or-map block_of ks i zeros) ∙ get_or_within (map block_of ks) i (block_of zeros) [] h
+block_at : (ks : List (List ℕ)) (i : ℕ) → i < length (map block_of ks) → block_of (get_or ks i []) ≡ get_or (map block_of ks) i []
+block_at ks i h = sym (get_or-map block_of ks i []) ∙ get_or_within (map block_of ks) i (block_of []) [] h
 
 -- the same, where the schedule is whole
-pub key_at_lem : (key : List ℕ) (ks : List Columns) (i : ℕ) → map block_of ks ≡ key_expansion key → i < 11
-    → block_of (get_or ks i zeros) ≡ get_or (map block_of ks) i []
+pub key_at_lem : (key : List ℕ) (ks : List (List ℕ)) (i : ℕ) → map block_of ks ≡ key_expansion key → i < 11
+    → block_of (get_or ks i []) ≡ get_or (map block_of ks) i []
 key_at_lem key ks i e h = block_at ks i (rw e h)
 
 -- the round keys before the i-th are in their places
-abbrev pub Expanded : List ℕ → ℕ → List Columns → Type 0
+abbrev pub Expanded : List ℕ → ℕ → List (List ℕ) → Type 0
 Expanded key i ks = Filled [] 11 (round_key key) i (map block_of ks)
 
 -- the key itself is the first
-pub expanded_first : (k : Columns) → Expanded (block_of k) 1 (replicate 11 k)
+pub expanded_first : (k : List ℕ) → Expanded (block_of k) 1 (replicate 11 k)
 unfolding block_of round_key word
 expanded_first k = record { long = refl; within = lit≤ tt; done = λ j l. rw (lt-one l) }
 
 -- each other from the one before
-pub expanded_more : (key : List ℕ) (i : ℕ) (ks : List Columns) (n : Columns) (x : ℕ) → Expanded key (i + 1) ks → i < 10
-    → bytes 4 x ≡ rcon (i + 1) → block_of n ≡ next_round_key (block_of (get_or ks i zeros)) (bytes 4 x)
+pub expanded_more : (key : List ℕ) (i : ℕ) (ks : List (List ℕ)) (n : List ℕ) (x : ℕ) → Expanded key (i + 1) ks → i < 10
+    → bytes 4 x ≡ rcon (i + 1) → block_of n ≡ next_round_key (block_of (get_or ks i [])) (bytes 4 x)
     → Expanded key (i + 1 + 1) (set ks (i + 1) n)
 expanded_more key i ks n x p h ex en =
     rw (map_set block_of ks (i + 1) n)
     (filled_set p (omega arith) (en ∙ ap₂ next_round_key last ex ∙ rw add-one (sym (round_key_next key i))))
   where
-    last : block_of (get_or ks i zeros) ≡ round_key key i
+    last : block_of (get_or ks i []) ≡ round_key key i
     last = block_at ks i (omega (arith, p.long)) ∙ p.done i (omega arith)
 
 pub rcon_first : bytes 4 0x01000000 ≡ rcon 1

@@ -5,17 +5,20 @@ use mathlib.Core.Path.{◌≡◌}
 use mathlib.Core.List.{List, []}
 use Prim.Native.Nat.{ℕ, zero, suc, ◌+◌, ◌-◌, ◌<◌}
 use native.Mathlib.Nat.{not-suc-le-zero}
-use native.Mathlib.Numerals.{add-one}
 use native.Mathlib.Omega.{arith}
 use lib.ListN.{get_or}
 use Rattle.aes128.specs.Cipher.{key_expansion, rounds, cipher_by, cipher, inv_rounds, inv_cipher_by, inv_cipher}
 use Rattle.aes128.specs.Rounds.{sub_bytes, shift_rows, mix_columns, add_round_key}
 use Rattle.aes128.specs.Rounds.{inv_sub_bytes, inv_shift_rows, inv_mix_columns}
 
-pub rounds_more : (w : List (List ℕ)) (t : List ℕ) (i : ℕ) {s b c k d : List ℕ} → s ≡ rounds w t i
-    → b ≡ shift_rows (sub_bytes s) → c ≡ mix_columns b → k ≡ get_or w (i + 1) [] → d ≡ add_round_key c k → d ≡ rounds w t (i + 1)
+pub rounds_more : (w : List (List ℕ)) (t : List ℕ) (i : ℕ) {s b c k d : List ℕ} → 0 < i → s ≡ rounds w t (i - 1)
+    → b ≡ shift_rows (sub_bytes s) → c ≡ mix_columns b → k ≡ get_or w i [] → d ≡ add_round_key c k
+    → d ≡ rounds w t (i + 1 - 1)
 unfolding rounds
-rounds_more w t i p q u v x = rw (x, v, u, q, p, add-one)
+rounds_more w t zero h p q u v x = absurd (not-suc-le-zero h)
+rounds_more w t (suc i) h p q u v x =
+    let before : suc i - 1 ≡ i = omega arith in let after : suc i + 1 - 1 ≡ suc i = omega arith in
+    rw (x, v, u, q, p, before, after)
 
 pub cipher_made : (key block : List ℕ) (i : ℕ) {w : List (List ℕ)} {a j t s b k c : List ℕ} → w ≡ key_expansion key
     → a ≡ block → j ≡ get_or w 0 [] → t ≡ add_round_key a j → s ≡ rounds w t i → i ≡ 9

@@ -6,8 +6,9 @@ use Prim.Native.Nat.{ℕ, ◌+◌, ◌*◌, ◌/◌, ◌%◌, ◌^◌, ◌<◌}
 use native.Mathlib.Omega.{arith}
 use lib.Bits.{bit_or, xor_shr, xor_mod}
 use Rattle.laws.specs.BigEndian.{bytes, number}
-use Rattle.laws.proofs.BigEndian.{or_add, or_number4}
+use Rattle.laws.proofs.BigEndian.{or_add, be_number}
 use Rattle.laws.proofs.Numbers.{number_read, bytes_number}
+use Rattle.std.specs.Int.{w32, from_be_bytes}
 use Rattle.aes128.specs.Field.{◌⊕◌}
 use Rattle.aes128.specs.KeyExpansion.{rot_word, xor_word}
 
@@ -25,11 +26,11 @@ pub word_of : (x : ℕ) → x < 2 ^ 32 → {a b c d : ℕ} → byte x 24 ≡ a �
     → x ≡ number (a ∷ b ∷ c ∷ d ∷ [])
 word_of x h p q r s = sym (number_read 4 x h) ∙ rw (p, q, r, s)
 
-pub join_bytes : (a b c d : ℕ) → a < 256 → b < 256 → c < 256 → d < 256
-    → bytes 4 (bit_or (bit_or (bit_or (a * 2 ^ 24 % 2 ^ 32) (b * 2 ^ 16 % 2 ^ 32)) (c * 2 ^ 8 % 2 ^ 32)) d) ≡ a ∷ b ∷ c ∷ d ∷ []
-join_bytes a b c d ha hb hc hd =
-    bytes_of (bit_or (bit_or (bit_or (a * 2 ^ 24 % 2 ^ 32) (b * 2 ^ 16 % 2 ^ 32)) (c * 2 ^ 8 % 2 ^ 32)) d) a b c d ha hb hc hd
-    (or_number4 a b c d ha hb hc hd ∙ omega arith)
+-- the word of four bytes has these bytes
+pub join_bytes : (a b c d : ℕ) {x : ℕ} → a < 256 → b < 256 → c < 256 → d < 256
+    → x ≡ from_be_bytes w32 (a ∷ b ∷ c ∷ d ∷ []) → bytes 4 x ≡ a ∷ b ∷ c ∷ d ∷ []
+join_bytes a b c d {x} ha hb hc hd e =
+    bytes_of x a b c d ha hb hc hd (e ∙ be_number w32 (a ∷ b ∷ c ∷ d ∷ []) refl)
 
 xor_byte : (a b k : ℕ) → byte (a ⊕ b) k ≡ byte a k ⊕ byte b k
 xor_byte a b k = rw (xor_shr a b k) (xor_mod (a / 2 ^ k) (b / 2 ^ k) 8)

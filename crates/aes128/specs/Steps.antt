@@ -9,13 +9,13 @@ use Rattle.aes128.specs.KeyExpansion.{rot_word, sub_word, xor_word}
 use Rattle.aes128.specs.Rounds.{times}
 use Rattle.aes128.specs.State.{column_of, columns}
 
--- a table's entries at the first byte of w, the second of x, the third of y and the fourth of z
-unfoldable pub substituted : List ℕ → ℕ → ℕ → ℕ → ℕ → List ℕ
-substituted t w x y z =
-    get_or t (get_or (bytes 4 w) 0 0) 0 ∷
-    get_or t (get_or (bytes 4 x) 1 0) 0 ∷
-    get_or t (get_or (bytes 4 y) 2 0) 0 ∷
-    get_or t (get_or (bytes 4 z) 3 0) 0 ∷ []
+-- the values of f, SBOX or INVSBOX, at the first byte of w, the second of x, the third of y and the fourth of z
+unfoldable pub substituted : (ℕ → ℕ) → ℕ → ℕ → ℕ → ℕ → List ℕ
+substituted f w x y z =
+    f (get_or (bytes 4 w) 0 0) ∷
+    f (get_or (bytes 4 x) 1 0) ∷
+    f (get_or (bytes 4 y) 2 0) ∷
+    f (get_or (bytes 4 z) 3 0) ∷ []
 
 -- each byte doubled
 abbrev pub doubled : List ℕ → List ℕ

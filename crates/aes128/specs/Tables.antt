@@ -1,5 +1,5 @@
--- What is proved of the two substitution tables of src/: proofs/SBox.antt. That the code's tables are these lists is what `round_keys`,
--- `sub_bytes_shift_rows` and `inv_shift_rows_sub_bytes` ask of the table that is lent to them.
+-- What is proved of the two substitution tables of src/: proofs/SBox.antt. That the code's tables are these lists is what the
+-- ghost fields of `SBox` (src/substitution.rt) and `InvSBox` (src/inv_substitution.rt) say.
 -- Assumes nothing.
 use Rattle.std.specs.Prelude.{List, [], ◌∷◌, ◌≡◌, ℕ, ◌<◌, length, get_or}
 use Rattle.aes128.specs.Field.{◌•◌}

@@ -4,48 +4,38 @@ ghost use Rattle.laws.specs.BigEndian.{bytes};
 ghost use Rattle.aes128.specs.Cipher.{key_expansion};
 ghost use Rattle.aes128.specs.KeyExpansion.{sub_word};
 ghost use Rattle.aes128.specs.Steps.{next_round_key};
-ghost use Rattle.aes128.specs.Tables.{s_box_table};
 ghost use Rattle.aes128.specs.Words.{block_of};
 
 use crate::columns::{Columns, to_columns};
+use crate::substitution::SBox;
 use crate::word::{double_word, rot_word, substitute};
 
 // The round keys 0 to 10, each from the one before.
-pub fn round_keys(t: &[u8; 256], key: [u8; 16]) -> [Columns; 11]
-    requires { t.now ≡ s_box_table }
+pub fn round_keys(s_box: SBox, key: [u8; 16]) -> [Columns; 11]
     ensures { map block_of result ≡ key_expansion key }
 {
     let mut keys = [to_columns(key); 11];
     let mut rcon: u32 = 0x01000000;
-    let mut i = 0;
-    while i < 10 {
-        let k = keys[i];
-        i += 1;
-        keys[i] = next_round_key(t, k, rcon);
+    for i in 0..10 {
+        keys[i + 1] = next_round_key(s_box, keys[i], rcon);
         rcon = double_word(rcon);
     }
     keys
 }
 
 // The four words after those of the round key k.
-fn next_round_key(t: &[u8; 256], k: Columns, rcon: u32) -> Columns
-    requires { t.now ≡ s_box_table }
+fn next_round_key(s_box: SBox, k: Columns, rcon: u32) -> Columns
     ensures { block_of result ≡ next_round_key (block_of k) (bytes 4 rcon) }
 {
-    let a = k.w0 ^ (sub_word(t, rot_word(k.w3)) ^ rcon);
-    let b = k.w1 ^ a;
-    let c = k.w2 ^ b;
-    Columns {
-        w0: a,
-        w1: b,
-        w2: c,
-        w3: k.w3 ^ c,
-    }
+    let [w, x, y, z] = k;
+    let a = w ^ (sub_word(s_box, rot_word(z)) ^ rcon);
+    let b = x ^ a;
+    let c = y ^ b;
+    [a, b, c, z ^ c]
 }
 
-fn sub_word(t: &[u8; 256], w: u32) -> u32
-    requires { t.now ≡ s_box_table }
+fn sub_word(s_box: SBox, w: u32) -> u32
     ensures { bytes 4 result ≡ sub_word (bytes 4 w) }
 {
-    substitute(t, w, w, w, w)
+    substitute(s_box, w, w, w, w)
 }

@@ -1,4 +1,25 @@
 // INVSBOX, Table 6 of FIPS 197. specs/Tables.antt states that it undoes SBOX.
+ghost use Rattle.std.specs.Prelude.{◌≡◌};
+ghost use Rattle.aes128.specs.SBox.{inv_s_box};
+ghost use Rattle.aes128.specs.Tables.{inv_s_box_table};
+
+use crate::word::SubstitutionBox;
+
+// The table, lent to the rounds.
+#[derive(Clone, Copy)]
+pub struct InvSBox<'a> {
+    pub table: &'a [u8; 256],
+    ghost entries: { table.now ≡ inv_s_box_table },
+}
+
+impl<'a> SubstitutionBox for InvSBox<'a> {
+    ghost image = { inv_s_box };
+
+    fn look_up(self, byte: u8) -> u8 {
+        self.table[byte as usize]
+    }
+}
+
 pub const INV_SBOX: [u8; 256] = [
     0x52, 0x09, 0x6a, 0xd5, 0x30, 0x36, 0xa5, 0x38, 0xbf, 0x40, 0xa3, 0x9e, 0x81, 0xf3, 0xd7, 0xfb,
     0x7c, 0xe3, 0x39, 0x82, 0x9b, 0x2f, 0xff, 0x87, 0x34, 0x8e, 0x43, 0x44, 0xc4, 0xde, 0xe9, 0xcb,

@@ -16,54 +16,43 @@ use columns::{
     to_block, to_columns,
 };
 use expansion::round_keys;
+use inv_substitution::{INV_SBOX, InvSBox};
+use substitution::{SBOX, SBox};
 
 // CIPHER: nine whole rounds, and a last one that mixes no columns.
 pub fn encrypt(key: [u8; 16], block: [u8; 16]) -> [u8; 16]
     ensures { result ≡ cipher key block }
 {
-    let t = &substitution::SBOX;
-    let keys = round_keys(t, key);
-    let first = keys[0];
-    let mut s = add_round_key(to_columns(block), first);
-    let mut i = 0;
-    while i < 9 {
-        i += 1;
-        let k = keys[i];
-        s = add_round_key(mix_columns(sub_bytes_shift_rows(t, s)), k);
+    let s_box = SBox { table: &SBOX };
+    let keys = round_keys(s_box, key);
+    let mut s = add_round_key(to_columns(block), keys[0]);
+    for i in 1..10 {
+        s = add_round_key(mix_columns(sub_bytes_shift_rows(s_box, s)), keys[i]);
     }
-    let last = keys[10];
-    to_block(add_round_key(sub_bytes_shift_rows(t, s), last))
+    to_block(add_round_key(sub_bytes_shift_rows(s_box, s), keys[10]))
 }
 
 // INVCIPHER: the inverse of each step, with the round keys from the last to the first.
 pub fn decrypt(key: [u8; 16], block: [u8; 16]) -> [u8; 16]
     ensures { result ≡ inv_cipher key block }
 {
-    let inv = &inv_substitution::INV_SBOX;
-    let keys = round_keys(&substitution::SBOX, key);
-    let last = keys[10];
-    let mut s = add_round_key(to_columns(block), last);
-    let mut i = 9;
-    while i > 0 {
-        let k = keys[i];
-        s = inv_mix_columns(add_round_key(inv_shift_rows_sub_bytes(inv, s), k));
-        i -= 1;
+    let inv_s_box = InvSBox { table: &INV_SBOX };
+    let keys = round_keys(SBox { table: &SBOX }, key);
+    let mut s = add_round_key(to_columns(block), keys[10]);
+    for i in (1..10).rev() {
+        s = inv_mix_columns(add_round_key(inv_shift_rows_sub_bytes(inv_s_box, s), keys[i]));
     }
-    let first = keys[0];
-    to_block(add_round_key(inv_shift_rows_sub_bytes(inv, s), first))
+    to_block(add_round_key(inv_shift_rows_sub_bytes(inv_s_box, s), keys[0]))
 }
 
 // KEYEXPANSION: the round keys 0 to 10, as blocks.
 pub fn key_expansion(key: [u8; 16]) -> [[u8; 16]; 11]
     ensures { result ≡ key_expansion key }
 {
-    let keys = round_keys(&substitution::SBOX, key);
+    let keys = round_keys(SBox { table: &SBOX }, key);
     let mut blocks = [key; 11];
-    let mut i = 0;
-    while i < 11 {
-        let k = keys[i];
-        blocks[i] = to_block(k);
-        i += 1;
+    for (i, k) in keys.iter().enumerate() {
+        blocks[i] = to_block(*k);
     }
     blocks
 }

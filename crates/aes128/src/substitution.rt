@@ -1,4 +1,25 @@
 // SBOX, Table 4 of FIPS 197. specs/Tables.antt states that every entry follows from the rule of §5.1.1.
+ghost use Rattle.std.specs.Prelude.{◌≡◌};
+ghost use Rattle.aes128.specs.SBox.{s_box};
+ghost use Rattle.aes128.specs.Tables.{s_box_table};
+
+use crate::word::SubstitutionBox;
+
+// The table, lent to the rounds.
+#[derive(Clone, Copy)]
+pub struct SBox<'a> {
+    pub table: &'a [u8; 256],
+    ghost entries: { table.now ≡ s_box_table },
+}
+
+impl<'a> SubstitutionBox for SBox<'a> {
+    ghost image = { s_box };
+
+    fn look_up(self, byte: u8) -> u8 {
+        self.table[byte as usize]
+    }
+}
+
 pub const SBOX: [u8; 256] = [
     0x63, 0x7c, 0x77, 0x7b, 0xf2, 0x6b, 0x6f, 0xc5, 0x30, 0x01, 0x67, 0x2b, 0xfe, 0xd7, 0xab, 0x76,
     0xca, 0x82, 0xc9, 0x7d, 0xfa, 0x59, 0x47, 0xf0, 0xad, 0xd4, 0xa2, 0xaf, 0x9c, 0xa4, 0x72, 0xc0,

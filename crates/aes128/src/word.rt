@@ -1,41 +1,35 @@
 // Words of 32 bits, the byte of row 0 highest: all four bytes are worked on at once.
-ghost use Rattle.std.specs.Prelude.{[], ◌∷◌, ◌≡◌, ◌%◌, get_or};
+ghost use Rattle.std.specs.Prelude.{◌≡◌, ℕ};
 ghost use Rattle.laws.specs.BigEndian.{bytes};
 ghost use Rattle.aes128.specs.KeyExpansion.{rot_word};
 ghost use Rattle.aes128.specs.Rounds.{mix_matrix, inv_mix_matrix};
 ghost use Rattle.aes128.specs.Steps.{doubled, multiplied, substituted};
 
-// The word of four bytes.
-pub fn join(a: u8, b: u8, c: u8, d: u8) -> u32
-    ensures { bytes 4 result ≡ a ∷ b ∷ c ∷ d ∷ [] }
-{
-    (a as u32) << 24 | (b as u32) << 16 | (c as u32) << 8 | (d as u32)
-}
-
 // ROTWORD.
 pub fn rot_word(w: u32) -> u32
     ensures { bytes 4 result ≡ rot_word (bytes 4 w) }
 {
-    w << 8 | w >> 24
+    w.rotate_left(8)
 }
 
-// Through the table t: the first byte of w, the second of x, the third of y and the fourth of z. Both directions share it.
-pub fn substitute(t: &[u8; 256], w: u32, x: u32, y: u32, z: u32) -> u32
-    ensures { bytes 4 result ≡ substituted t.now w x y z }
-{
-    join(
-        look(t, w >> 24),
-        look(t, x >> 16),
-        look(t, y >> 8),
-        look(t, z),
-    )
+// A substitution of a byte: SBOX or INVSBOX.
+pub trait SubstitutionBox: Copy {
+    ghost image: { ℕ → ℕ };
+
+    fn look_up(self, byte: u8) -> u8
+        ensures { result ≡ image byte };
 }
 
-// The entry that the lowest byte of w names.
-fn look(t: &[u8; 256], w: u32) -> u8
-    ensures { result ≡ get_or t.now (w % 256) 0 }
+// The first byte of w, the second of x, the third of y and the fourth of z, each substituted. Both directions share it.
+pub fn substitute<B: SubstitutionBox>(s_box: B, w: u32, x: u32, y: u32, z: u32) -> u32
+    ensures { bytes 4 result ≡ substituted B.image w x y z }
 {
-    t[(w % 256) as usize]
+    u32::from_be_bytes([
+        s_box.look_up(w.to_be_bytes()[0]),
+        s_box.look_up(x.to_be_bytes()[1]),
+        s_box.look_up(y.to_be_bytes()[2]),
+        s_box.look_up(z.to_be_bytes()[3]),
+    ])
 }
 
 // XTIMES of §4.2 at all four bytes, with no branch: where a byte's highest bit is set the mask is {7f}, which keeps all of {1b}.

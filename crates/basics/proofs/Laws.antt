@@ -1,15 +1,15 @@
 -- Laws of the comparison of byte strings.
 -- Assumes nothing.
-use mathlib.Core.Bool.{Bool, true, false, ◌&&◌}
+use mathlib.Core.Bool.{Bool, true, false}
 use mathlib.Core.List.{List, [], ◌∷◌}
+use mathlib.Core.Logic.{◌⊎◌, inl, inr}
 use mathlib.Core.Path.{◌≡◌, refl, sym, ap₂, ◌∙◌}
-use Prim.Native.Nat.{ℕ, ◌+◌, ◌<◌, ◌≤◌}
+use Prim.Native.Nat.{ℕ}
 use native.Mathlib.Omega.{arith}
 use lib.Dec.{eqb, eqb→eq, eqb_refl}
-use lib.ListN.{length, drop, get_or, drop_of_length-le}
+use lib.ListN.{length}
 use borrow.Author.Tests.{eq-eqb, ne_eqb, eqb-true, eqb-false}
 use Rattle.laws.proofs.Choice.{and_false, and_left, and_right, is_true, true_is}
-use Rattle.laws.proofs.Lists.{drop_more}
 use Rattle.laws.specs.Choice.{◌and◌}
 use Rattle.basics.specs.Bytes.{same}
 
@@ -31,18 +31,14 @@ same_long [] (y ∷ ys) h = refl
 same_long (x ∷ xs) [] h = refl
 same_long (x ∷ xs) (y ∷ ys) h = rw (same_long xs ys (λ e. h (omega arith))) (and_false (eqb x y))
 
--- one byte more: `equal` says whether those before it are equal
-pub same_more : (equal : Bool) (a b : List ℕ) (i : ℕ) → i < length a → i < length b
-    → ((equal && eqb (get_or a i 0) (get_or b i 0)) and same (drop (i + 1) a) (drop (i + 1) b))
-    ≡ (equal and same (drop i a) (drop i b))
-same_more false a b i h k = refl
-same_more true a b i h k = rw (drop_more a i 0 h, drop_more b i 0 k)
-
--- no byte is left
-pub same_end : (equal : Bool) (a b : List ℕ) (i : ℕ) → length a ≤ i → length b ≤ i
-    → equal ≡ (equal and same (drop i a) (drop i b))
-same_end false a b i h k = refl
-same_end true a b i h k = rw (drop_of_length-le a h, drop_of_length-le b k)
+-- no byte is left of one of them, and so of neither
+pub same_end : (equal : Bool) (a b : List ℕ) → length a ≡ length b → (a ≡ []) ⊎ (b ≡ []) → equal ≡ (equal and same a b)
+same_end false a b e h = refl
+same_end true [] [] e h = refl
+same_end true [] (y ∷ b) e h = absurd (omega arith)
+same_end true (x ∷ a) [] e h = absurd (omega arith)
+same_end true (x ∷ a) (y ∷ b) e (inl p) = cc
+same_end true (x ∷ a) (y ∷ b) e (inr p) = cc
 
 eqb_comm : (x y : ℕ) → eqb x y ≡ eqb y x
 eqb_comm x y = go (eqb x y) refl

@@ -7,19 +7,21 @@ use Prim.Native.Nat.{ℕ, ◌≤◌, ◌<◌}
 use lib.Dec.{leb}
 use lib.ListN.{length, drop}
 use borrow.Author.Tests.{le-leb, lt-leb}
-use Rattle.basics.specs.Output.{too_short, written, report_of, placed}
-use Rattle.basics.specs.declared.Report.{Report}
+use Rattle.std.specs.Prelude.{Result, Ok, Err}
+use Rattle.basics.specs.Output.{report_of, placed}
+use Rattle.basics.specs.declared.Answer.{Answer}
+use Rattle.basics.specs.declared.Answer.TheVariants.{OutputTooShort}
 
 -- the output is too short, and left alone
-pub left_alone : (text out : List ℕ) {r : Report} → length out < length text → r ≡ too_short
+pub left_alone : (text out : List ℕ) {r : Result ℕ Answer} → length out < length text → r ≡ Err OutputTooShort
     → (r ≡ report_of text out) × (out ≡ placed text out)
 left_alone text out h e =
     let t : leb (length text) (length out) ≡ false = lt-leb (length text) (length out) h in
     (rw t e, rw t)
 
 -- the text is written, and what follows it stays
-pub all_written : (text out : List ℕ) {r : Report} {n : ℕ} {x : List ℕ} → length text ≤ length out → r ≡ written n
+pub all_written : (text out : List ℕ) {r : Result ℕ Answer} {n : ℕ} {x : List ℕ} → length text ≤ length out → r ≡ Ok n
     → n ≡ length text → x ≡ text ++ drop (length text) out → (r ≡ report_of text out) × (x ≡ placed text out)
 all_written text out h e f g =
     let t : leb (length text) (length out) ≡ true = le-leb (length text) (length out) h in
-    (rw t (e ∙ ap written f), rw t g)
+    (rw t (e ∙ ap Ok f), rw t g)

@@ -1,4 +1,4 @@
--- Lists of bytes: when two are the same, and sixteen of them from a place.
+-- Lists of bytes: when two are the same, and a part of one from a place.
 -- Assumes nothing.
 use Rattle.std.specs.Prelude.{Bool, true, false, List, [], ◌∷◌, ℕ, eqb, take, drop}
 use Rattle.laws.specs.Choice.{◌and◌}
@@ -10,6 +10,6 @@ same [] (y ∷ ys) = false
 same (x ∷ xs) [] = false
 same (x ∷ xs) (y ∷ ys) = eqb x y and same xs ys
 
--- the sixteen bytes from a place on
-abbrev pub sixteen_at : ℕ → List ℕ → List ℕ
-sixteen_at at l = take 16 (drop at l)
+-- the n bytes from a place on
+abbrev pub part : ℕ → ℕ → List ℕ → List ℕ
+part n at l = take n (drop at l)

@@ -1,18 +1,12 @@
 -- What a function does with an output that the caller lends: all of a text, or nothing.
 -- Assumes nothing.
-use Rattle.std.specs.Prelude.{List, ◌++◌, ℕ, leb, length, drop, if◌then◌else◌}
-use Rattle.basics.specs.declared.Answer.TheVariants.{Taken, OutputTooShort}
-use Rattle.basics.specs.declared.Report.{Report}
+use Rattle.std.specs.Prelude.{List, ◌++◌, ℕ, leb, length, drop, if◌then◌else◌, Result, Ok, Err}
+use Rattle.basics.specs.declared.Answer.{Answer}
+use Rattle.basics.specs.declared.Answer.TheVariants.{OutputTooShort}
 
-abbrev pub too_short : Report
-too_short = record { answer = OutputTooShort; length = 0 }
-
-abbrev pub written : ℕ → Report
-written n = record { answer = Taken; length = n }
-
--- "Answer 13 if the output is shorter than the whole structure"; the length is handed out with 0
-abbrev pub report_of : List ℕ → List ℕ → Report
-report_of text out = if leb (length text) (length out) then written (length text) else too_short
+-- "Answer 13 if the output is shorter than the whole structure"; otherwise how many bytes were written
+abbrev pub report_of : List ℕ → List ℕ → Result ℕ Answer
+report_of text out = if leb (length text) (length out) then Ok (length text) else Err OutputTooShort
 
 -- "Bytes past those written stay", and a refusal writes nothing
 abbrev pub placed : List ℕ → List ℕ → List ℕ

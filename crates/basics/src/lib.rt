@@ -1,11 +1,10 @@
-// What every layer of the provider speaks of: answers, link numbers and moments, addresses, blocks of sixteen bytes, lent outputs.
+// What every layer of the provider speaks of: answers, link numbers and moments, addresses, parts of byte strings.
 #![tactic(auto)]
 
 ghost use Rattle.std.specs.Prelude.{◌≡◌, ◌+◌, ◌-◌, ◌≤◌, length};
 ghost use Rattle.std.proofs.Math.Seq.{paste};
 ghost use Rattle.basics.specs.Answers.{answer_number, is_taken};
 ghost use Rattle.basics.specs.Bytes as spec;
-ghost use Rattle.basics.specs.Output as output;
 
 // The number of a link, of which 0 to 7 exist.
 #[derive(Clone, Copy)]
@@ -24,7 +23,7 @@ pub struct Address {
 }
 
 // The answers of documents 01 and 02, one for each row of the table; `answer_number` of specs/Answers gives the number.
-#[derive(Clone, Copy)]
+#[derive(Clone, Copy, PartialEq, Eq)]
 pub enum Answer {
     Taken,
     UnknownLink,
@@ -75,34 +74,7 @@ impl Answer {
     pub fn is_taken(self) -> bool
         ensures { result ≡ is_taken self }
     {
-        self.number() == 0
-    }
-}
-
-// What became of a text that goes to a lent output, 0 or 13, and how many bytes were written.
-#[derive(Clone, Copy)]
-pub struct Report {
-    pub answer: Answer,
-    pub length: usize,
-}
-
-// The report of an output too short for the text.
-pub fn too_short() -> Report
-    ensures { result ≡ output.too_short }
-{
-    Report {
-        answer: Answer::OutputTooShort,
-        length: 0,
-    }
-}
-
-// The report of a text of `length` bytes that was written.
-pub fn written(length: usize) -> Report
-    ensures { result ≡ output.written length }
-{
-    Report {
-        answer: Answer::Taken,
-        length: length,
+        self == Answer::Taken
     }
 }
 
@@ -115,34 +87,20 @@ pub fn same(a: &[u8], b: &[u8]) -> bool
         return false;
     }
     let mut equal = true;
-    let mut i = 0;
-    while i < a.len() {
-        equal = equal & (a[i] == b[i]);
-        i += 1;
+    for (x, y) in a.iter().zip(b) {
+        equal &= x == y;
     }
     equal
 }
 
-// The sixteen bytes of `src` from `at` on.
-pub fn sixteen(src: &[u8], at: usize) -> [u8; 16]
-    requires { at + 16 ≤ length src.now }
-    ensures { result ≡ spec.sixteen_at at src.now }
+// The `N` bytes of `src` from `at` on.
+pub fn part<const N: usize>(src: &[u8], at: usize) -> [u8; N]
+    requires { at + N ≤ length src.now }
+    ensures { result ≡ spec.part N at src.now }
 {
-    let mut block = [0u8; 16];
-    let mut i = 0;
-    while i < 16 {
-        block[i] = src[at + i];
-        i += 1;
-    }
-    block
-}
-
-// `block` copied into `out` from `at` on.
-pub fn put(out: &mut [u8], at: usize, block: [u8; 16])
-    requires { at + 16 ≤ length out.old }
-    ensures { out.new ≡ paste out.old at block 16 }
-{
-    copy(out, at, &block);
+    let mut bytes = [0u8; N];
+    bytes.copy_from_slice(&src[at..at + N]);
+    bytes
 }
 
 // `part` copied into `out` from `at` on.
@@ -150,16 +108,12 @@ pub fn copy(out: &mut [u8], at: usize, part: &[u8])
     requires { at + length part.now ≤ length out.old }
     ensures { out.new ≡ paste out.old at part.now (length part.now) }
 {
-    let mut i = 0;
-    while i < part.len() {
-        out[at + i] = part[i];
-        i += 1;
-    }
+    out[at..at + part.len()].copy_from_slice(part);
 }
 
 // How long ago `then` was, in milliseconds; 0 if it is still to come.
 pub fn ago(now: Moment, then: Moment) -> u64
     ensures { result ≡ now.0 - then.0 }
 {
-    if then.0 <= now.0 { now.0 - then.0 } else { 0 }
+    now.0.saturating_sub(then.0)
 }

@@ -3,11 +3,13 @@
 // passes a slice as a pointer and a length, and an array as a pointer.
 #![tactic(auto)]
 
-ghost use Rattle.std.specs.Prelude.{◌++◌, ◌≡◌, drop, if◌then◌else◌};
+ghost use Rattle.std.specs.Prelude.{◌++◌, ◌≡◌, drop, is_some, unwrap_or, if◌then◌else◌};
 ghost use Rattle.additional_data.specs.Packet.{sealed, packet_size, opened};
-ghost use Rattle.names.specs.Name.{reading, text_of};
+ghost use Rattle.names.specs.Name.{reading, no_name, text_of};
 ghost use Rattle.sha256.specs.Hash.{sha256};
 ghost use Rattle.aes128.specs.Cipher.{cipher, inv_cipher};
+
+use names::Name;
 
 // Leaves the SHA-256 of msg in out.
 #[unsafe(no_mangle)]
@@ -36,20 +38,16 @@ pub extern "C" fn bench_decrypt(key: &[u8; 16], block: &mut [u8; 16])
 // Leaves the packet of the name in front of out; a text that is no name stands for the empty one.
 #[unsafe(no_mangle)]
 pub extern "C" fn bench_seal(key: &[u8; 16], nonce: &[u8; 8], text: &[u8], out: &mut [u8; 80])
-    ensures { out.new ≡ sealed key.now nonce.now (text_of (reading text.now).name) ++ drop (packet_size (reading text.now).name) out.old }
+    ensures { out.new ≡ sealed key.now nonce.now (text_of (unwrap_or (reading text.now) no_name)) ++ drop (packet_size (unwrap_or (reading text.now) no_name)) out.old }
 {
-    let name = names::read(text).name;
+    let name = names::read(text).unwrap_or(Name::none());
     additional_data::seal(*key, *nonce, name, out);
 }
 
 // 1 if the packet carries a name, and 0 if not.
 #[unsafe(no_mangle)]
 pub extern "C" fn bench_open(key: &[u8; 16], packet: &[u8]) -> u8
-    ensures { result ≡ (if (opened key.now packet.now).good then 1 else 0) }
+    ensures { result ≡ (if is_some (opened key.now packet.now) then 1 else 0) }
 {
-    let reading = additional_data::open(*key, packet);
-    if reading.good {
-        return 1;
-    }
-    0
+    u8::from(additional_data::open(*key, packet).is_some())
 }

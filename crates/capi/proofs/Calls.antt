@@ -12,16 +12,17 @@ use Rattle.account_keys.specs.declared.AccountKey.{AccountKey}
 use Rattle.basics.proofs.Answers.{number_taken}
 use Rattle.basics.specs.Answers.{answer_number}
 use Rattle.basics.specs.Output.{report_of, placed}
-use Rattle.packed.proofs.ReadsBack.{flag_back, packed_reads_back, any_bytes}
-use Rattle.capi.specs.Calls.{served, lent_back, returned, no_report, told, written_to}
+use Rattle.packed.proofs.ReadsBack.{flag_back, packed_reads_back, unpacked_back, any_bytes}
+use Rattle.capi.specs.Calls.{on_device, served, lent_back, returned, no_report, told, written_to}
 use Rattle.capi.specs.Demands.{CallIsStep, after_calls, CallsAreSteps, calls, CallsOnlyTakeAway, AdvertisesAfresh, CallsAdvertiseAfresh, CallsAcceptNoneWhileAwaited}
-use Rattle.packed.specs.Packed.{packed, packed_reply, packed_outcome, packed_report, is_device, device_of}
+use Rattle.packed.specs.Packed.{packed, packed_reply, packed_outcome, packed_report, unpacked, device_of}
 use Rattle.packed.specs.declared.FpDevice.{FpDevice}
 use Rattle.packed.specs.declared.FpOutcome.{FpOutcome}
 use Rattle.packed.specs.declared.FpReply.{FpReply}
 use Rattle.laws.proofs.Choice.{true_is}
 use Rattle.laws.proofs.Padded.{take_padded}
-use Rattle.std.specs.Prelude.{if◌then◌else◌}
+use Rattle.std.specs.Prelude.{Option, Some, None, unwrap_or}
+use Rattle.std.specs.Option.{option_map_or}
 use Rattle.names.specs.Name.{text_of}
 use Rattle.provider.proofs.Theorems.Gap.{gap_only_takes_away}
 use Rattle.provider.proofs.Theorems.KeptFilter.{filter_kept}
@@ -31,7 +32,7 @@ use Rattle.provider.specs.Demands.Gap.{Marked, done, same, added, rules, Lists, 
 use Rattle.provider.specs.Demands.KeptFilter.{payload_afresh}
 use Rattle.provider.specs.Demands.Rotation.{NoneUntilLifted}
 use Rattle.provider.specs.Demands.Validity.{Valid, written}
-use Rattle.provider.specs.Rules.Control.{advertised}
+use Rattle.provider.specs.Rules.Control.{advertised, off}
 use Rattle.provider.specs.Rules.Event.{Event, Overflow, PowerOn, step, next, answer_of, after}
 use Rattle.provider.specs.declared.Device.{Device}
 
@@ -40,7 +41,7 @@ use Rattle.provider.specs.declared.Device.{Device}
 pub call_is_step : CallIsStep
 unfolding served lent_back
 call_is_step d e v =
-    let back = packed_reads_back d v in (rw (back.0, back.1), rw (back.0, back.1))
+    let back = unpacked_back d v in (rw back, rw back)
 
 pub calls_are_steps : CallsAreSteps
 unfolding after_calls after
@@ -172,12 +173,14 @@ after_markers (e ∷ es) d v a = (
 of_device : (f : FpDevice) (e : Event) (says : FpReply → Bool) → says (returned f).reply ≡ false
     → says (served f e).reply ≡ true → served f e ≡ packed_outcome (step (device_of f) e).gives
 unfolding served
-of_device f e says n = go (is_device f)
+of_device f e says n = go (unpacked f)
   where
-    go : (b : Bool) → says (if b then packed_outcome (step (device_of f) e).gives else returned f).reply ≡ true
-        → (if b then packed_outcome (step (device_of f) e).gives else returned f) ≡ packed_outcome (step (device_of f) e).gives
-    go true h = refl
-    go false h = absurd (true_is (sym n ∙ h))
+    answer : Option Device → FpOutcome
+    answer r = option_map_or (λ d. packed_outcome (step d e).gives) r (returned f)
+
+    go : (r : Option Device) → says (answer r).reply ≡ true → answer r ≡ packed_outcome (step (unwrap_or r off) e).gives
+    go (Some d) h = refl
+    go None h = absurd (true_is (sym n ∙ h))
 
 -- only bytes that are a device get 0
 taken_is_device : (f : FpDevice) (e : Event) → (served f e).reply.answer ≡ 0
@@ -220,13 +223,22 @@ calls_accept_none_while_awaited f e h es =
 
 -- what is told and written goes by the text of the device that was read
 module _ (f : FpDevice) (text other : Device → List ℕ) (e : text (device_of f) ≡ other (device_of f)) (out : List ℕ) where
+  same_answer : {A : Type 0} (of_text : List ℕ → A) (otherwise : A)
+      → on_device f (λ d. of_text (text d)) otherwise ≡ on_device f (λ d. of_text (other d)) otherwise
+  same_answer of_text otherwise = go (unpacked f) e
+    where
+      go : (r : Option Device) → text (unwrap_or r off) ≡ other (unwrap_or r off)
+          → option_map_or (λ d. of_text (text d)) r otherwise ≡ option_map_or (λ d. of_text (other d)) r otherwise
+      go (Some d) h = ap of_text h
+      go None h = refl
+
   told-as : told f text out ≡ told f other out
   unfolding told
-  told-as = ap (λ (t : List ℕ). if is_device f then packed_report (report_of t out) else no_report) e
+  told-as = same_answer (λ t. packed_report (report_of t out)) no_report
 
   written_as : written_to f text out ≡ written_to f other out
   unfolding written_to
-  written_as = ap (λ (t : List ℕ). if is_device f then placed t out else out) e
+  written_as = same_answer (λ t. placed t out) out
 
 pub calls_advertise_afresh : CallsAdvertiseAfresh
 calls_advertise_afresh f stored name start h es prompt =

@@ -1,4 +1,6 @@
 // The two questions that change nothing, for C.
+#![tactic(auto, unfolding(crate::specs::Calls::told, crate::specs::Calls::written_to))]
+
 ghost use Rattle.std.specs.Prelude.{◌≡◌};
 ghost use Rattle.capi.specs.Calls.{prompt_of, told, written_to};
 ghost use Rattle.provider.specs.Rules.Control.{advertised};
@@ -13,13 +15,10 @@ pub extern "C" fn fp_advertisement(device: FpDevice, hide: u8, out: &mut [u8]) -
     ensures value { result ≡ told device (λ d. advertised d (prompt_of hide)) out.old }
     ensures out_after { out.new ≡ written_to device (λ d. advertised d (prompt_of hide)) out.old }
 {
-    let from = unpack::unpack(device);
-    if !from.known {
+    let Some(d) = unpack::unpack(device) else {
         return crate::no_report();
-    }
-    let d = from.device;
-    let prompt = read_prompt(hide);
-    pack::pack_report(d.advertisement(prompt, out))
+    };
+    pack::pack_report(d.advertisement(read_prompt(hide), out))
 }
 
 #[unsafe(no_mangle)]
@@ -27,19 +26,17 @@ pub extern "C" fn fp_stored_list(device: FpDevice, out: &mut [u8]) -> FpReport
     ensures value { result ≡ told device written out.old }
     ensures out_after { out.new ≡ written_to device written out.old }
 {
-    let from = unpack::unpack(device);
-    if !from.known {
+    let Some(d) = unpack::unpack(device) else {
         return crate::no_report();
-    }
-    let d = from.device;
+    };
     pack::pack_report(d.stored_list(out))
 }
 
 fn read_prompt(hide: u8) -> Prompt
     ensures { result ≡ prompt_of hide }
 {
-    if hide == 0 {
-        return Prompt::Show;
+    match hide {
+        0 => Prompt::Show,
+        _ => Prompt::Hide,
     }
-    Prompt::Hide
 }

@@ -1,4 +1,6 @@
 // Power-on, the marker, links, pairing mode, rotation and reset, for C.
+#![tactic(auto, unfolding(crate::specs::Calls::served, crate::specs::Calls::lent_back))]
+
 ghost use Rattle.std.specs.Prelude.{◌≡◌, eqb, not};
 ghost use Rattle.capi.specs.Calls.{served};
 ghost use Rattle.packed.specs.Packed.{packed};
@@ -26,11 +28,9 @@ pub extern "C" fn fp_power_on(
 ) -> FpOutcome
     ensures { result ≡ served device (PowerOn stored.now name.now start) }
 {
-    let from = unpack::unpack(device);
-    if !from.known {
+    let Some(d) = unpack::unpack(device) else {
         return crate::returned(device);
-    }
-    let d = from.device;
+    };
     pack::pack_outcome(d.power_on(stored, name, start))
 }
 
@@ -38,11 +38,9 @@ pub extern "C" fn fp_power_on(
 pub extern "C" fn fp_overflow(device: FpDevice) -> FpOutcome
     ensures { result ≡ served device Overflow }
 {
-    let from = unpack::unpack(device);
-    if !from.known {
+    let Some(d) = unpack::unpack(device) else {
         return crate::returned(device);
-    }
-    let d = from.device;
+    };
     pack::pack_outcome(d.overflow())
 }
 
@@ -50,11 +48,9 @@ pub extern "C" fn fp_overflow(device: FpDevice) -> FpOutcome
 pub extern "C" fn fp_link_up(device: FpDevice, link: u8, clock: u64) -> FpOutcome
     ensures { result ≡ served device (OnLink link clock LinkUp) }
 {
-    let from = unpack::unpack(device);
-    if !from.known {
+    let Some(d) = unpack::unpack(device) else {
         return crate::returned(device);
-    }
-    let d = from.device;
+    };
     pack::pack_outcome(d.link_up(Link(link), Moment(clock)))
 }
 
@@ -62,11 +58,9 @@ pub extern "C" fn fp_link_up(device: FpDevice, link: u8, clock: u64) -> FpOutcom
 pub extern "C" fn fp_link_down(device: FpDevice, link: u8, clock: u64) -> FpOutcome
     ensures { result ≡ served device (OnLink link clock LinkDown) }
 {
-    let from = unpack::unpack(device);
-    if !from.known {
+    let Some(d) = unpack::unpack(device) else {
         return crate::returned(device);
-    }
-    let d = from.device;
+    };
     pack::pack_outcome(d.link_down(Link(link), Moment(clock)))
 }
 
@@ -75,11 +69,9 @@ pub extern "C" fn fp_link_down(device: FpDevice, link: u8, clock: u64) -> FpOutc
 pub extern "C" fn fp_pairing_mode(device: FpDevice, on: u8, clock: u64) -> FpOutcome
     ensures { result ≡ served device (OnDevice clock (PairingMode (not (eqb on 0)))) }
 {
-    let from = unpack::unpack(device);
-    if !from.known {
+    let Some(d) = unpack::unpack(device) else {
         return crate::returned(device);
-    }
-    let d = from.device;
+    };
     pack::pack_outcome(d.pairing_mode(on != 0, Moment(clock)))
 }
 
@@ -92,11 +84,9 @@ pub extern "C" fn fp_address_rotated(
 ) -> FpOutcome
     ensures { result ≡ served device (OnDevice clock (AddressRotated ble salt.now)) }
 {
-    let from = unpack::unpack(device);
-    if !from.known {
+    let Some(d) = unpack::unpack(device) else {
         return crate::returned(device);
-    }
-    let d = from.device;
+    };
     pack::pack_outcome(d.address_rotated(ble, *salt, Moment(clock)))
 }
 
@@ -104,10 +94,8 @@ pub extern "C" fn fp_address_rotated(
 pub extern "C" fn fp_factory_reset(device: FpDevice, clock: u64) -> FpOutcome
     ensures { result ≡ served device (OnDevice clock FactoryReset) }
 {
-    let from = unpack::unpack(device);
-    if !from.known {
+    let Some(d) = unpack::unpack(device) else {
         return crate::returned(device);
-    }
-    let d = from.device;
+    };
     pack::pack_outcome(d.factory_reset(Moment(clock)))
 }

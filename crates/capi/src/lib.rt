@@ -10,7 +10,8 @@ mod requests;
 ghost use Rattle.std.specs.Prelude.{◌≡◌};
 ghost use Rattle.capi.specs.Calls as calls;
 
-use packed::{FpDevice, FpOutcome, FpReply, FpReport};
+use basics::Address;
+use packed::{FpBond, FpDevice, FpOutcome, FpReply, FpReport};
 
 // The answer to bytes that are not served, none of document 01's numbers.
 const NOT_A_DEVICE: u8 = 255;
@@ -28,9 +29,12 @@ fn returned(device: FpDevice) -> FpOutcome
             packet: 0,
             named: 0,
             rotate: false,
-            bond: key_based::no_bond(),
+            bond: FpBond {
+                wanted: false,
+                address: Address { bytes: [0; 6] },
+            },
         },
-        reserved: [0u8; 3],
+        reserved: [0; 3],
     }
 }
 
@@ -40,6 +44,6 @@ fn no_report() -> FpReport
     FpReport {
         length: 0,
         answer: NOT_A_DEVICE,
-        reserved: [0u8; 7],
+        reserved: [0; 7],
     }
 }

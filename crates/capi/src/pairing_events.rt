@@ -1,4 +1,6 @@
 // Pairing events, the passkey write, the account key write and the name write, for C.
+#![tactic(auto, unfolding(crate::specs::Calls::served, crate::specs::Calls::lent_back))]
+
 ghost use Rattle.std.specs.Prelude.{◌≡◌, not, [], ◌∷◌, eqb};
 ghost use Rattle.capi.specs.Calls.{served, lent_back};
 ghost use Rattle.pairing.specs.Pairing.{PairingStarted, ConfirmationNeeded, PasskeyWrite, PairingEnded, AccountKeyWrite, NameWrite};
@@ -16,11 +18,9 @@ pub extern "C" fn fp_pairing_started(
 ) -> FpOutcome
     ensures { result ≡ served device (OnLink link clock (OnSession (PairingStarted capability))) }
 {
-    let from = unpack::unpack(device);
-    if !from.known {
+    let Some(d) = unpack::unpack(device) else {
         return crate::returned(device);
-    }
-    let d = from.device;
+    };
     pack::pack_outcome(d.pairing_started(Link(link), Moment(clock), capability))
 }
 
@@ -33,11 +33,9 @@ pub extern "C" fn fp_confirmation_needed(
 ) -> FpOutcome
     ensures { result ≡ served device (OnLink link clock (OnSession (ConfirmationNeeded passkey))) }
 {
-    let from = unpack::unpack(device);
-    if !from.known {
+    let Some(d) = unpack::unpack(device) else {
         return crate::returned(device);
-    }
-    let d = from.device;
+    };
     pack::pack_outcome(d.confirmation_needed(Link(link), Moment(clock), passkey))
 }
 
@@ -53,11 +51,9 @@ pub extern "C" fn fp_passkey_write(
     ensures value { result ≡ served device (OnLink link clock (OnSession (PasskeyWrite block.now salt.now out.old))) }
     ensures out_after { out.new ∷ [] ≡ lent_back device (OnLink link clock (OnSession (PasskeyWrite block.now salt.now out.old))) }
 {
-    let from = unpack::unpack(device);
-    if !from.known {
+    let Some(d) = unpack::unpack(device) else {
         return crate::returned(device);
-    }
-    let d = from.device;
+    };
     pack::pack_outcome(d.passkey_write(Link(link), Moment(clock), block, *salt, out))
 }
 
@@ -66,11 +62,9 @@ pub extern "C" fn fp_passkey_write(
 pub extern "C" fn fp_pairing_ended(device: FpDevice, link: u8, clock: u64, success: u8) -> FpOutcome
     ensures { result ≡ served device (OnLink link clock (OnSession (PairingEnded (not (eqb success 0))))) }
 {
-    let from = unpack::unpack(device);
-    if !from.known {
+    let Some(d) = unpack::unpack(device) else {
         return crate::returned(device);
-    }
-    let d = from.device;
+    };
     pack::pack_outcome(d.pairing_ended(Link(link), Moment(clock), success != 0))
 }
 
@@ -83,11 +77,9 @@ pub extern "C" fn fp_account_key_write(
 ) -> FpOutcome
     ensures { result ≡ served device (OnLink link clock (OnSession (AccountKeyWrite block.now))) }
 {
-    let from = unpack::unpack(device);
-    if !from.known {
+    let Some(d) = unpack::unpack(device) else {
         return crate::returned(device);
-    }
-    let d = from.device;
+    };
     pack::pack_outcome(d.account_key_write(Link(link), Moment(clock), block))
 }
 
@@ -95,10 +87,8 @@ pub extern "C" fn fp_account_key_write(
 pub extern "C" fn fp_name_write(device: FpDevice, link: u8, clock: u64, packet: &[u8]) -> FpOutcome
     ensures { result ≡ served device (OnLink link clock (OnSession (NameWrite packet.now))) }
 {
-    let from = unpack::unpack(device);
-    if !from.known {
+    let Some(d) = unpack::unpack(device) else {
         return crate::returned(device);
-    }
-    let d = from.device;
+    };
     pack::pack_outcome(d.name_write(Link(link), Moment(clock), packet))
 }

@@ -1,4 +1,6 @@
 // The key-based write, for C.
+#![tactic(auto, unfolding(crate::specs::Calls::served, crate::specs::Calls::lent_back))]
+
 ghost use Rattle.std.specs.Prelude.{[], ◌∷◌, ◌≡◌};
 ghost use Rattle.capi.specs.Calls.{lent_back, served};
 ghost use Rattle.packed.specs.Packed.{element_of};
@@ -22,13 +24,11 @@ pub extern "C" fn fp_key_based_write(
     ensures value { result ≡ served device (OnLink link clock (KeyBasedWrite request.now (element_of element) salt.now nonce.now out.old packet.old)) }
     ensures packet_after { out.new ∷ packet.new ∷ [] ≡ lent_back device (OnLink link clock (KeyBasedWrite request.now (element_of element) salt.now nonce.now out.old packet.old)) }
 {
-    let from = unpack::unpack(device);
-    if !from.known {
+    let Some(d) = unpack::unpack(device) else {
         return crate::returned(device);
-    }
-    let d = from.device;
+    };
     let point = unpack::element(element);
-    let outcome = d.key_based_write(
+    pack::pack_outcome(d.key_based_write(
         Link(link),
         Moment(clock),
         request,
@@ -37,6 +37,5 @@ pub extern "C" fn fp_key_based_write(
         *nonce,
         out,
         packet,
-    );
-    pack::pack_outcome(outcome)
+    ))
 }

@@ -12,24 +12,11 @@ use Rattle.replay.specs.Promises.{Lines, fed_part, line_of}
 use Rattle.replay.specs.declared.Line.{Line}
 use Rattle.replay.specs.declared.parts.Ended.{Ended}
 use Rattle.replay.specs.declared.parts.Fed.{Fed}
-use Rattle.replay.specs.declared.parts.Printed.{Printed}
-use Rattle.replay.specs.declared.parts.Printed.TheVariants.{Nothing, One}
+use Rattle.std.specs.Prelude.{Option, Some, None}
 use Rattle.replay.specs.declared.parts.Stream.{Stream}
 use Rattle.replay_text.specs.Text.{text}
 use Rattle.fp_replay.specs.Reading.{Output, unused, line_place, printed, printed_all, State, state, drained, printed_of, turned, turned_output, finished}
 use Rattle.fp_replay.specs.declared.part.Turn.{Turn}
-
--- ---- one step
-
--- its line, if there is one, was printed
-pub turn_of : (t : Turn) (out out' : List ℕ) {f g : Fed} {n : ℕ} {p : Printed} → f ≡ g → f.line ≡ p
-    → record { bytes = out'; filled = n } ≡ printed_of (record { bytes = out; filled = t.filled }) p
-    → (record { stream = f.next; at = f.at; filled = n } ≡ turned t g out) × (out' ≡ turned_output t g out)
-turn_of t out out' {f} {g} {n} {p} e q o =
-    let told : record { bytes = out'; filled = n } ≡ printed_of (record { bytes = out; filled = t.filled }) g.line =
-    o ∙ ap (printed_of (record { bytes = out; filled = t.filled })) (sym q ∙ ap (λ (x : Fed). x.line) e)
-    in
-    ((λ i. record { stream = (e i).next; at = (e i).at; filled = (told i).filled }), ap (λ (x : Output). x.bytes) told)
 
 -- ---- the loop
 
@@ -37,10 +24,10 @@ turn_of t out out' {f} {g} {n} {p} e q o =
 abbrev comes : Output → Lines → State
 comes o l = record { stream = l.next; output = printed_all o l.lines }
 
-comes_on : (o : Output) (p : Printed) (l : Lines) → comes o (line_and p l) ≡ comes (printed_of o p) l
+comes_on : (o : Output) (p : Option Line) (l : Lines) → comes o (line_and p l) ≡ comes (printed_of o p) l
 unfolding printed_all
-comes_on o Nothing l = refl
-comes_on o (One x) l = refl
+comes_on o None l = refl
+comes_on o (Some x) l = refl
 
 -- a turn of the loop that began with s₀ and out₀: from here on comes what was to come from there
 pub record Ahead (bs out₀ : List ℕ) (s₀ : Stream) (out : List ℕ) (t : Turn) : Type 0 where
@@ -62,9 +49,9 @@ ahead_first bs out₀ s₀ r =
     }
 
 -- a line leaves the buffer as long as it was
-output_long : (o : Output) (p : Printed) → (printed_of o p).filled ≤ length o.bytes → length (printed_of o p).bytes ≡ length o.bytes
-output_long o Nothing h = refl
-output_long o (One l) h =
+output_long : (o : Output) (p : Option Line) → (printed_of o p).filled ≤ length o.bytes → length (printed_of o p).bytes ≡ length o.bytes
+output_long o None h = refl
+output_long o (Some l) h =
     length-paste o.bytes (line_place (length o.bytes) o.filled) (text l) (length (text l)) h (omega arith)
 
 module _ (bs out₀ : List ℕ) (s₀ : Stream) (out : List ℕ) (t : Turn) (a : Ahead bs out₀ s₀ out t) (h : t.at < length bs) where
@@ -120,14 +107,14 @@ first_ready e = subst Ready (sym e) start_ready
 
 -- ---- the end
 
-pub finished_none : (s : Stream) (out : List ℕ) {e : Ended} → e ≡ ended s → e.line ≡ Nothing → out ≡ (finished s (unused out)).bytes
+pub finished_none : (s : Stream) (out : List ℕ) {e : Ended} → e ≡ ended s → e.line ≡ None → out ≡ (finished s (unused out)).bytes
 unfolding printed_all
 finished_none s out p q =
-    ap (λ (l : Printed). (printed_all (unused out) (line_of l)).bytes) (sym q ∙ ap (λ (x : Ended). x.line) p)
+    ap (λ (l : Option Line). (printed_all (unused out) (line_of l)).bytes) (sym q ∙ ap (λ (x : Ended). x.line) p)
 
-pub finished_line : (s : Stream) (out : List ℕ) {e : Ended} {l : Line} {x : Output} → e ≡ ended s → e.line ≡ One l → x ≡ printed (unused out) l
+pub finished_line : (s : Stream) (out : List ℕ) {e : Ended} {l : Line} {x : Output} → e ≡ ended s → e.line ≡ Some l → x ≡ printed (unused out) l
     → x.bytes ≡ (finished s (unused out)).bytes
 unfolding printed_all
 finished_line s out {l = l} p q r =
     ap (λ (y : Output). y.bytes) r
-    ∙ ap (λ (m : Printed). (printed_all (unused out) (line_of m)).bytes) (sym q ∙ ap (λ (y : Ended). y.line) p)
+    ∙ ap (λ (m : Option Line). (printed_all (unused out) (line_of m)).bytes) (sym q ∙ ap (λ (y : Ended). y.line) p)

@@ -1,13 +1,11 @@
 -- What the program makes of the parts that it reads: the stream behind them, and the lines in its output buffer.
 -- Assumes nothing.
-use Rattle.std.specs.Prelude.{List, [], ◌∷◌, ℕ, ◌+◌, leb, length, if◌then◌else◌}
+use Rattle.std.specs.Prelude.{Option, Some, None, List, [], ◌∷◌, ℕ, ◌+◌, leb, length, if◌then◌else◌}
 use Rattle.std.proofs.Math.Seq.{paste}
 use Rattle.replay.specs.Parts.{ended}
 use Rattle.replay.specs.Promises.{fed_part, line_of}
 use Rattle.replay.specs.declared.Line.{Line}
 use Rattle.replay.specs.declared.parts.Fed.{Fed}
-use Rattle.replay.specs.declared.parts.Printed.{Printed}
-use Rattle.replay.specs.declared.parts.Printed.TheVariants.{Nothing, One}
 use Rattle.replay.specs.declared.parts.Stream.{Stream}
 use Rattle.replay_text.specs.Text.{text}
 use Rattle.fp_replay.specs.declared.part.Turn.{Turn}
@@ -52,9 +50,9 @@ unfoldable pub drained : Stream → Output → List ℕ → State
 drained s o part = record { stream = (fed_part s part).next; output = printed_all o (fed_part s part).lines }
 
 -- one step of it
-abbrev pub printed_of : Output → Printed → Output
-printed_of o Nothing = o
-printed_of o (One l) = printed o l
+abbrev pub printed_of : Output → Option Line → Output
+printed_of o None = o
+printed_of o (Some l) = printed o l
 
 abbrev pub output_of : Turn → Fed → List ℕ → Output
 output_of t f out = printed_of (record { bytes = out; filled = t.filled }) f.line

@@ -22,9 +22,10 @@ fn place(rt: &HostRuntime, out: &[u8], filled: usize) -> usize
 {
     if out.len() - filled < replay_text::LINE_MAX {
         flush(rt, out, filled);
-        return 0;
+        0
+    } else {
+        filled
     }
-    filled
 }
 
 pub fn flush(rt: &HostRuntime, out: &[u8], filled: usize)
@@ -38,12 +39,6 @@ pub fn flush(rt: &HostRuntime, out: &[u8], filled: usize)
 // A message on standard error. If there is none to write to, nothing is left to tell it by.
 pub fn report(rt: &HostRuntime, name: &[u8], error: Error) {
     let mut stream = rt.stderr();
-    match stream.write_all(name) {
-        Ok(()) => {}
-        Err(_) => {}
-    }
-    match eprintln!(rt; ": {error}") {
-        Ok(()) => {}
-        Err(_) => {}
-    }
+    let _ = stream.write_all(name);
+    let _ = eprintln!(rt; ": {error}");
 }

@@ -5,7 +5,7 @@ ghost use Rattle.replay.specs.Promises.{fed_part};
 ghost use Rattle.fp_replay.specs.Reading as spec;
 
 use crate::output;
-use replay::parts::{Printed, Stream};
+use replay::parts::{Fed, Stream};
 
 // Between two steps: `at` is where the part is read on, and `filled` how much of the output buffer is in use.
 #[derive(Clone, Copy)]
@@ -34,13 +34,12 @@ fn drain(rt: &HostRuntime, stream: Stream, part: &[u8], out: &mut [u8]) -> Turn
     ensures filled_in_bounds { result.filled ≤ length out.old }
 {
     let mut turn = Turn {
-        stream: stream,
+        stream,
         at: 0,
         filled: 0,
     };
     while turn.at < part.len() {
-        let next = one(rt, turn, part, out);
-        turn = next;
+        turn = one(rt, turn, part, out);
     }
     turn
 }
@@ -52,21 +51,15 @@ fn one(rt: &HostRuntime, turn: Turn, part: &[u8], out: &mut [u8]) -> Turn
     ensures out_after { out.new ≡ spec.turned_output turn (fed turn.stream part.now turn.at) out.old }
     ensures filled_in_bounds { result.filled ≤ length out.old }
 {
-    let stream = turn.stream;
-    let fed = stream.feed(part, turn.at);
-    let next = fed.next;
-    let line = fed.line;
-    match line {
-        Printed::Nothing => Turn {
-            stream: next,
-            at: fed.at,
-            filled: turn.filled,
-        },
-        Printed::One(shown) => Turn {
-            stream: next,
-            at: fed.at,
-            filled: output::print(rt, out, turn.filled, shown),
-        },
+    let Fed { next, at, line } = turn.stream.feed(part, turn.at);
+    let filled = match line {
+        Some(line) => output::print(rt, out, turn.filled, line),
+        None => turn.filled,
+    };
+    Turn {
+        stream: next,
+        at,
+        filled,
     }
 }
 
@@ -75,13 +68,8 @@ pub fn finish(rt: &HostRuntime, stream: Stream, out: &mut [u8])
     requires { Ready stream × (83 ≤ length out.old) }
     ensures { out.new ≡ (spec.finished stream (spec.unused out.old)).bytes }
 {
-    let ended = stream.end();
-    let line = ended.line;
-    match line {
-        Printed::Nothing => {}
-        Printed::One(shown) => {
-            let filled = output::print(rt, out, 0, shown);
-            output::flush(rt, out, filled);
-        }
+    if let Some(line) = stream.end().line {
+        let filled = output::print(rt, out, 0, line);
+        output::flush(rt, out, filled);
     }
 }

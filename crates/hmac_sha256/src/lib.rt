@@ -5,6 +5,7 @@ ghost use Rattle.std.specs.Prelude.{◌≡◌};
 ghost use Rattle.hmac_sha256.specs.Hmac.{hmac, key_pad};
 
 // The authentication code of `message`, of any length.
+#[tactic(auto, unfolding(crate::specs::Hmac::hmac))]
 pub fn mac(key: [u8; 64], message: &[u8]) -> [u8; 32]
     ensures { result ≡ hmac key message.now }
 {
@@ -16,10 +17,8 @@ pub fn mac(key: [u8; 64], message: &[u8]) -> [u8; 32]
 fn key_pad(mut key: [u8; 64], value: u8) -> [u8; 64]
     ensures { result ≡ key_pad value key }
 {
-    let mut i = 0;
-    while i < 64 {
-        key[i] = key[i] ^ value;
-        i += 1;
+    for byte in &mut key {
+        *byte ^= value;
     }
     key
 }

@@ -6,22 +6,22 @@ use lib.Dec.{eqb}
 use lib.ListN.{get_or}
 use Rattle.laws.proofs.Choice.{true_is}
 use Rattle.laws.specs.Choice.{◌and◌, ◌or◌}
-use Rattle.std.specs.Prelude.{if◌then◌else◌}
+use Rattle.std.specs.Prelude.{Option, Some, None, if◌then◌else◌}
 use Rattle.basics.specs.Bytes.{same}
 use Rattle.key_based.specs.Named.{address_bytes, address_named, fits}
 use Rattle.key_based.specs.Promises.{FitsByAddress, EqualIsBle}
 use Rattle.key_based.specs.declared.named.Named.{Named}
-use Rattle.key_based.specs.declared.named.Named.TheVariants.{Neither, Ble, Public}
+use Rattle.key_based.specs.declared.named.Named.TheVariants.{Ble, Public}
 
 -- the definition, of its three tests
-abbrev by_tests : Bool → Bool → Bool → Named
-by_tests kind ble public = if not kind then Neither else if ble then Ble else if public then Public else Neither
+abbrev by_tests : Bool → Bool → Bool → Option Named
+by_tests kind ble public = if not kind then None else if ble then Some Ble else if public then Some Public else None
 
 pub equal_is_ble : EqualIsBle
 unfolding address_named
 equal_is_ble a plain = go (eqb (get_or plain 0 0) 0x00) (same (address_bytes plain) a.bytes)
   where
-    go : (x y : Bool) → fits (by_tests x y y) ≡ true → by_tests x y y ≡ Ble
+    go : (x y : Bool) → fits (by_tests x y y) ≡ true → by_tests x y y ≡ Some Ble
     go false y h = absurd (true_is h)
     go true true h = refl
     go true false h = absurd (true_is h)

@@ -7,20 +7,20 @@ use Prim.Native.Nat.{ℕ, zero, suc, ◌+◌, ◌-◌, ◌<◌}
 use native.Mathlib.Nat.{le_of_suc-le-suc, not-suc-le-zero}
 use native.Mathlib.Omega.{arith}
 use lib.ListN.{length, get_or, length-map, get_or-map}
-use Rattle.std.specs.Prelude.{if◌then◌else◌}
+use Rattle.std.specs.Prelude.{Option, Some, None, if◌then◌else◌}
 use Rattle.key_based.specs.Promises.{NoneOf, Tells, FirstThatFits}
-use Rattle.key_based.specs.Named.{fits, fitting}
-use Rattle.key_based.specs.Request.{candidates, has_public_key, opened, Found, found, nothing, search}
-use Rattle.key_based.specs.Search.{tried, handed_over, searched}
-use Rattle.key_based.specs.declared.Element.{Element}
+use Rattle.key_based.specs.Named.{address_named, fitting}
+use Rattle.key_based.specs.Request.{candidates, has_public_key, opened, Place, found, nothing, search}
+use Rattle.key_based.specs.Search.{tried, with_named, handed_over, searched}
+use Rattle.key_based.specs.declared.Found.{Found}
+use Rattle.key_based.specs.declared.named.Named.{Named}
 use Rattle.account_keys.specs.Keys.{zero_key}
 use Rattle.account_keys.specs.declared.AccountKey.{AccountKey}
 use Rattle.basics.specs.declared.Address.{Address}
-use Rattle.laws.proofs.Choice.{true_is}
 use Rattle.laws.proofs.Lists.{get_or_within}
 
 -- a place further back
-abbrev shifted : Found → Found
+abbrev shifted : Place → Place
 shifted (found n k) = found (n + 1) k
 shifted (nothing n) = nothing (n + 1)
 
@@ -42,7 +42,7 @@ module _ (test : List ℕ → Bool) (k : List ℕ) (ks : List (List ℕ)) (fails
   none_more n p zero h = fails
   none_more n p (suc j) h = p j (le_of_suc-le-suc h)
 
-  tells_more : (f : Found) → Tells test ks f → Tells test (k ∷ ks) (shifted f)
+  tells_more : (f : Place) → Tells test ks f → Tells test (k ∷ ks) (shifted f)
   tells_more (found n x) t =
       let back : n + 1 - 1 ≡ suc (n - 1) = omega (arith, t.0) in (
         omega arith,
@@ -64,28 +64,34 @@ first_that_fits test (k ∷ ks) = go (test k) refl (first_that_fits test ks)
     go false fails t = rw (search_shifted test 0 ks) (tells_more test k ks fails (search test 0 ks) t)
 
 -- a request without a public key that a key fits: the key stands at the told place of the list
-module _ (ble public : Address) (keys : List AccountKey) (element : Element) (request : List ℕ) where
+module _ (ble public : Address) (keys : List AccountKey) (secret : Option (List ℕ)) (request : List ℕ) where
+  -- what a key is found with
+  is_key : (key plain : List ℕ) (m : Option Named) {f : Found} → with_named key plain m ≡ Some f → key ≡ f.key
+  is_key key plain None e = (cc)
+  is_key key plain (Some n) e = (cc)
+
   -- what is told of a search
   pub record AtPlace (n : ℕ) (key : List ℕ) : Type 0 where
     pub within : n - 1 < length keys
     pub there : (get_or keys (n - 1) zero_key).bytes ≡ key
 
-  pub told_key_lem : has_public_key request ≡ false → fits (searched ble public keys element request).named ≡ true
-      → AtPlace (searched ble public keys element request).tried (searched ble public keys element request).key
+  pub told_key_lem : {f : Found} → has_public_key request ≡ false → (searched ble public keys secret request).found ≡ Some f
+      → AtPlace (searched ble public keys secret request).tried f.key
   unfolding candidates
-  told_key_lem e = rw e
+  told_key_lem {f} e = rw e
       (go (tried ble public request 0 owners) (first_that_fits (λ k. fitting ble public (opened k request)) owners))
     where
       owners : List (List ℕ)
       owners = map (λ k. k.bytes) keys
 
-      go : (x : Found) → Tells (λ k. fitting ble public (opened k request)) owners x → fits (handed_over ble public request x).named ≡ true
-          → AtPlace (handed_over ble public request x).tried (handed_over ble public request x).key
-      go (found n key) t f =
+      go : (x : Place) → Tells (λ k. fitting ble public (opened k request)) owners x
+          → (handed_over ble public request x).found ≡ Some f → AtPlace (handed_over ble public request x).tried f.key
+      go (found n key) t e =
           let small : n - 1 < length keys = omega (arith, t.0, t.1, length-map keys (λ (k : AccountKey). k.bytes)) in
           record {
             within = small;
             there = ap (λ (k : AccountKey). k.bytes) (get_or_within keys (n - 1) zero_key (record { bytes = [] }) small)
-                ∙ sym (get_or-map (λ (k : AccountKey). k.bytes) keys (n - 1) (record { bytes = [] })) ∙ t.2;
+                ∙ sym (get_or-map (λ (k : AccountKey). k.bytes) keys (n - 1) (record { bytes = [] })) ∙ t.2
+                ∙ is_key key (opened key request) (address_named ble public (opened key request)) e;
           }
-      go (nothing n) t f = absurd (true_is f)
+      go (nothing n) t e = (cc)

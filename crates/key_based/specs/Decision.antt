@@ -1,7 +1,7 @@
 -- Document 01, "Key-based write": answers 5 to 8, what an accepted request changes, and its response; document 02: the packet with the
 -- name (i), the key that is used (ii), answer 16 and the address that was named (vii).
 -- Assumes nothing.
-use Rattle.std.specs.Prelude.{Bool, false, not, List, [], ◌∷◌, ◌++◌, ℕ, drop, if◌then◌else◌}
+use Rattle.std.specs.Prelude.{Bool, false, not, List, [], ◌∷◌, ◌++◌, ℕ, drop, Option, Some, None, if◌then◌else◌}
 use Rattle.laws.specs.Choice.{◌and◌}
 use Rattle.account_keys.specs.Keys.{held, kept, used}
 use Rattle.account_keys.specs.declared.AccountKeys.{AccountKeys}
@@ -9,14 +9,12 @@ use Rattle.basics.specs.Answers.{is_taken}
 use Rattle.basics.specs.declared.Address.{Address}
 use Rattle.basics.specs.declared.Answer.{Answer}
 use Rattle.basics.specs.declared.Answer.TheVariants.{Taken, LockedOut, NotInPairingMode, NoKeyFits, SaltSpent, RotationAwaited}
-use Rattle.key_based.specs.Named.{fits}
-use Rattle.key_based.specs.Request.{has_public_key, request_salt, bond_asked, name_asked, no_bond, response}
+use Rattle.key_based.specs.Request.{has_public_key, request_salt, bond_asked, name_asked, response}
 use Rattle.key_based.specs.Search.{searched}
 use Rattle.key_based.specs.declared.Context.{Context}
 use Rattle.key_based.specs.declared.Decision.{Decision}
-use Rattle.key_based.specs.declared.Element.{Element}
+use Rattle.key_based.specs.declared.Found.{Found}
 use Rattle.key_based.specs.declared.Search.{Search}
-use Rattle.key_based.specs.declared.named.Named.TheVariants.{Neither}
 use Rattle.additional_data.specs.Packet.{sealed, packet_size}
 use Rattle.names.specs.Name.{text_of}
 use Rattle.names.specs.declared.Name.{Name}
@@ -31,8 +29,8 @@ refused g s a n =
     record {
       answer = a;
       tried = n;
-      named = Neither;
-      bond = no_bond;
+      named = None;
+      bond = None;
       guard = g;
       session = s;
       sends = false;
@@ -45,33 +43,36 @@ asked key t = record { stage = Asked; key = key; since = record { 0 = t }; passk
 
 -- "If accepted: remember the salt, count becomes 0, K replaces the link's key, stage asked"; `uses` says whether K is used. "The
 -- accepted answer hands this on": the address that was named
-abbrev pub accepted : Guard → ℕ → Bool → Search → Decision
-accepted g t uses r =
+abbrev pub accepted : Guard → ℕ → Bool → ℕ → Found → Decision
+accepted g t uses n f =
     record {
       answer = Taken;
-      tried = r.tried;
-      named = r.named;
-      bond = bond_asked r.plain;
-      guard = accepted_with (request_salt r.plain) g;
-      session = asked r.key t;
-      sends = name_asked r.plain;
+      tried = n;
+      named = Some f.named;
+      bond = bond_asked f.plain;
+      guard = accepted_with (request_salt f.plain) g;
+      session = asked f.key t;
+      sends = name_asked f.plain;
       uses = uses;
     }
 
 -- 8: "fits, salt remembered"
-abbrev pub salt_known : Guard → Search → Bool
-salt_known g r = spent (remembered g.spent) (request_salt r.plain)
+abbrev pub salt_known : Guard → Option Found → Bool
+salt_known g None = false
+salt_known g (Some f) = spent (remembered g.spent) (request_salt f.plain)
 
 -- answers 7 and 8: "count plus 1, this failure's moment stored" if no candidate fits
+abbrev pub settled_by : Guard → Session → ℕ → Bool → ℕ → Option Found → Decision
+settled_by g s t uses n None = refused (failed_at t g) s NoKeyFits n
+settled_by g s t uses n (Some f) =
+    if salt_known g (Some f) then refused g s SaltSpent n else accepted g t uses n f
+
 unfoldable pub settled : Guard → Session → ℕ → Bool → Search → Decision
-settled g s t uses r =
-    if not (fits r.named) then refused (failed_at t g) s NoKeyFits r.tried else
-    if salt_known g r then refused g s SaltSpent r.tried else
-    accepted g t uses r
+settled g s t uses r = settled_by g s t uses r.tried r.found
 
 -- the keys tried
-abbrev pub tried_keys : Context → Element → List ℕ → Search
-tried_keys c element request = searched c.ble c.public (held c.keys) element request
+abbrev pub tried_keys : Context → Option (List ℕ) → List ℕ → Search
+tried_keys c secret request = searched c.ble c.public (held c.keys) secret request
 
 -- 6: "80 bytes, pairing mode off"
 abbrev pub unwanted : Context → List ℕ → Bool
@@ -83,12 +84,12 @@ uses_key request = not (has_public_key request)
 
 -- a request at moment t on a link with session s: answers 5, 16, 6, 7 and 8 in this order. "Until the rotation, further key-based
 -- writes get a new answer 16, after 5 and before 6, uncounted, clock step only."
-unfoldable pub decided : Context → Session → ℕ → Element → List ℕ → Decision
-decided c s t element request =
+unfoldable pub decided : Context → Session → ℕ → Option (List ℕ) → List ℕ → Decision
+decided c s t secret request =
     if locked c.guard then refused c.guard s LockedOut 0 else
     if c.wait.on then refused c.guard s RotationAwaited 0 else
     if unwanted c request then refused c.guard s NotInPairingMode 0 else
-    settled c.guard s t (uses_key request) (tried_keys c element request)
+    settled c.guard s t (uses_key request) (tried_keys c secret request)
 
 -- the account keys after a request under K: "the key moves to the end", if it is used
 abbrev pub used_in : Bool → List ℕ → AccountKeys → AccountKeys
@@ -111,9 +112,9 @@ outputs_of c salt nonce out packet r =
     ∷ []
 
 -- and after a request
-abbrev pub request_outputs : Context → Session → ℕ → Element → (request salt nonce out packet : List ℕ) → List (List ℕ)
-request_outputs c s t element request salt nonce out packet =
-    outputs_of c salt nonce out packet (decided c s t element request)
+abbrev pub request_outputs : Context → Session → ℕ → Option (List ℕ) → (request salt nonce out packet : List ℕ) → List (List ℕ)
+request_outputs c s t secret request salt nonce out packet =
+    outputs_of c salt nonce out packet (decided c s t secret request)
 
 -- "hands out the packet's length"; without 0x20, or refused, it is 0
 abbrev pub packet_length : Bool → Name → ℕ

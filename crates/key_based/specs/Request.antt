@@ -1,14 +1,12 @@
 -- Document 01, "Key-based write": the keys that are tried, the block as a key opens it, and the response. Which address it names is
 -- `Named`'s.
 -- Assumes nothing.
-use Rattle.std.specs.Prelude.{Bool, true, false, not, List, [], ◌∷◌, ◌++◌, map, ℕ, ◌+◌, ◌-◌, eqb, length, take, drop, get_or, replicate, if◌then◌else◌}
+use Rattle.std.specs.Prelude.{Bool, not, List, [], ◌∷◌, ◌++◌, map, ℕ, ◌+◌, ◌-◌, eqb, length, take, drop, get_or, replicate, Option, Some, None, if◌then◌else◌}
 use Rattle.std.specs.Int.Bits.{bit_and}
 use Rattle.laws.specs.Choice.{◌or◌}
 use Rattle.account_keys.specs.declared.AccountKey.{AccountKey}
 use Rattle.aes128.specs.Cipher.{cipher, inv_cipher}
 use Rattle.basics.specs.declared.Address.{Address}
-use Rattle.key_based.specs.declared.Bond.{Bond}
-use Rattle.key_based.specs.declared.Element.{Element}
 use Rattle.request_guard.specs.declared.Salt.{Salt}
 use Rattle.sha256.specs.Hash.{sha256}
 
@@ -20,24 +18,27 @@ abbrev pub sized : List ℕ → Bool
 sized request = eqb (length request) 16 or has_public_key request
 
 -- "With 80, the only candidate key is the first 16 bytes of SHA-256 of the element's secret; a rejected point gives no
--- candidate. With 16, keys are tried in list order"
-unfoldable pub candidates : List AccountKey → Element → List ℕ → List (List ℕ)
-candidates keys element request =
-    if has_public_key request then (if element.accepted then take 16 (sha256 element.secret) ∷ [] else [])
-    else
-    map (λ k. k.bytes) keys
+-- candidate."
+abbrev pub of_secret : Option (List ℕ) → List (List ℕ)
+of_secret None = []
+of_secret (Some secret) = take 16 (sha256 secret) ∷ []
+
+-- "With 16, keys are tried in list order"
+unfoldable pub candidates : List AccountKey → Option (List ℕ) → List ℕ → List (List ℕ)
+candidates keys secret request =
+    if has_public_key request then of_secret secret else map (λ k. k.bytes) keys
 
 -- the encrypted request, its first 16 bytes, as a key decrypts it
 abbrev pub opened : List ℕ → List ℕ → List ℕ
 opened key request = inv_cipher key (take 16 request)
 
 -- the first key that fits with its place, counted from 1, or the number of keys that were tried
-pub data Found : Type 0 where
-  found : ℕ → List ℕ → Found
-  nothing : ℕ → Found
+pub data Place : Type 0 where
+  found : ℕ → List ℕ → Place
+  nothing : ℕ → Place
 
 -- "trying stops at the first that fits", after n others
-unfoldable pub search : (List ℕ → Bool) → ℕ → List (List ℕ) → Found
+unfoldable pub search : (List ℕ → Bool) → ℕ → List (List ℕ) → Place
 search test n [] = nothing n
 search test n (k ∷ ks) = if test k then found (n + 1) k else search test (n + 1) ks
 
@@ -60,17 +61,10 @@ salt_at place plain =
 abbrev pub request_salt : List ℕ → Salt
 request_salt plain = salt_at (salt_place (get_or plain 1 0)) plain
 
-abbrev pub no_bond : Bond
-no_bond = record { wanted = false; address = record { bytes = replicate 6 0 } }
-
 -- "Flag 0x40 also hands out the address in bytes 8 to 13 for bonding."
-abbrev pub bond_asked : List ℕ → Bond
+abbrev pub bond_asked : List ℕ → Option Address
 bond_asked plain =
-    if flagged 0x40 (get_or plain 1 0) then record {
-      wanted = true;
-      address = record
-          { bytes = take 6 (drop 8 plain) };
-    } else no_bond
+    if flagged 0x40 (get_or plain 1 0) then Some (record { bytes = take 6 (drop 8 plain) }) else None
 
 -- document 02 (i): "Phones set request flag 0x20 and expect the name"
 abbrev pub name_asked : List ℕ → Bool

@@ -11,8 +11,8 @@ ghost use Rattle.names.specs.Name as names;
 ghost use Rattle.request_guard.specs.Guard as guards;
 ghost use Rattle.key_based.specs.Decision as rule;
 ghost use Rattle.key_based.specs.Request as spec;
-ghost use Rattle.key_based.specs.Request.{sized, has_public_key, request_salt, bond_asked, name_asked, no_bond};
-ghost use Rattle.key_based.specs.Search.{tried, none_fits, handed_over, searched};
+ghost use Rattle.key_based.specs.Request.{sized, has_public_key, request_salt, bond_asked, name_asked};
+ghost use Rattle.key_based.specs.Search.{tried, none_fits, fit, handed_over, searched};
 
 use crate::named::Named;
 use account_keys::{AccountKey, AccountKeys};
@@ -22,29 +22,26 @@ use request_guard::wait::RotationWait;
 use request_guard::{Guard, Salt};
 use sessions::{Session, Stage};
 
-// What the secure element made of the public key in an 80-byte request.
+// The key that fits a request, with the block as it opens it and the address that this names.
 #[derive(Clone, Copy)]
-pub struct Element {
-    pub accepted: bool,
-    pub secret: [u8; 32],
-}
-
-// The address that a seeker asks to be bonded with, if it asks; else zero.
-#[repr(C)]
-#[derive(Clone, Copy)]
-pub struct Bond {
-    pub wanted: bool,
-    pub address: Address,
-}
-
-// What trying the keys came to: the address that is named, neither if no key fits; how many were tried; and the key that fits with
-// the block as it opens it, else zero.
-#[derive(Clone, Copy)]
-pub struct Search {
+pub struct Found {
     pub named: Named,
-    pub tried: u8,
     pub key: [u8; 16],
     pub plain: [u8; 16],
+}
+
+// What trying the keys came to: how many were tried, and the one that fits.
+#[derive(Clone, Copy)]
+pub struct Search {
+    pub tried: u8,
+    pub found: Option<Found>,
+}
+
+// Our two addresses, either of which a request may name.
+#[derive(Clone, Copy)]
+struct Addresses {
+    ble: Address,
+    public: Address,
 }
 
 // What a request is decided by, beside the link's session.
@@ -65,29 +62,78 @@ pub struct Context {
 pub struct Decision {
     pub answer: Answer,
     pub tried: u8,
-    pub named: Named,
-    pub bond: Bond,
+    pub named: Option<Named>,
+    pub bond: Option<Address>,
     pub guard: Guard,
     pub session: Session,
     pub sends: bool,
     pub uses: bool,
 }
 
+impl Addresses {
+    // The candidates of a request of 16 or 80 bytes, tried in order up to the first that fits; a rejected point gives none.
+    fn try_keys(self, keys: AccountKeys, secret: Option<[u8; 32]>, request: &[u8]) -> Search
+        requires { Kept keys × (sized request.now ≡ true) }
+        ensures { result ≡ searched self.ble self.public (held keys) secret request.now }
+    {
+        let block = basics::part(request, 0);
+        if request.len() != 80 {
+            return self.try_owners(keys, block);
+        }
+        let Some(secret) = secret else {
+            return none_fits(0);
+        };
+        let digest = sha256::digest(&secret);
+        Search {
+            tried: 1,
+            found: self.try_key(basics::part(&digest, 0), block),
+        }
+    }
+
+    // The account keys, in list order.
+    fn try_owners(self, keys: AccountKeys, block: [u8; 16]) -> Search
+        requires { Kept keys }
+        ensures { result ≡ handed_over self.ble self.public block (tried self.ble self.public block 0 (map (λ k. k.bytes) (held keys))) }
+    {
+        let mut search = none_fits(0);
+        for owner in &keys.keys[..keys.count] {
+            search = Search {
+                tried: search.tried + 1,
+                found: self.try_key(owner.bytes, block),
+            };
+            if search.found.is_some() {
+                break;
+            }
+        }
+        search
+    }
+
+    // What a key opens a block as, if it fits.
+    fn try_key(self, key: [u8; 16], block: [u8; 16]) -> Option<Found>
+        ensures { result ≡ fit self.ble self.public block key }
+    {
+        let plain = aes128::decrypt(key, block);
+        let named = named::address_named(self.ble, self.public, plain)?;
+        Some(Found { named, key, plain })
+    }
+}
+
 // Whether a request has one of the two lengths.
 pub fn is_sized(request: &[u8]) -> bool
     ensures { result ≡ sized request.now }
 {
-    request.len() == 16 || request.len() == 80
+    matches!(request.len(), 16 | 80)
 }
 
 // Decides a request; if it is accepted, the response stands in front of `out`, and the name's packet, if asked for, in front of
 // `packet`.
+// `secret` is what the secure element made of the public key in an 80-byte request; None for a rejected point.
 pub fn decide(
     context: Context,
     session: Session,
     clock: Moment,
     request: &[u8],
-    element: Element,
+    secret: Option<[u8; 32]>,
     salt: [u8; 9],
     nonce: [u8; 8],
     out: &mut [u8],
@@ -95,16 +141,17 @@ pub fn decide(
 ) -> Decision
     requires kept { Kept context.keys × guards.Valid context.guard × names.Valid context.name }
     requires request_value { (sized request.now ≡ true) × (16 ≤ length out.old) × (80 ≤ length packet.old) }
-    ensures value { result ≡ rule.decided context session clock.0 element request.now }
-    ensures packet_after { out.new ∷ packet.new ∷ [] ≡ rule.request_outputs context session clock.0 element request.now salt nonce out.old packet.old }
+    ensures value { result ≡ rule.decided context session clock.0 secret request.now }
+    ensures packet_after { out.new ∷ packet.new ∷ [] ≡ rule.request_outputs context session clock.0 secret request.now salt nonce out.old packet.old }
 {
-    let decision = decided(context, session, clock, request, element);
-    let answer = decision.answer;
+    let decision = decided(context, session, clock, request, secret);
     let key = decision.session.key;
-    let address = context.public;
-    let name = context.name;
-    respond(answer, key, address, salt, out);
-    send_name(decision.sends, key, name, nonce, packet);
+    if decision.answer.is_taken() {
+        out[..16].copy_from_slice(&response(key, context.public, salt));
+    }
+    if decision.sends {
+        additional_data::seal(key, nonce, context.name, packet);
+    }
     decision
 }
 
@@ -113,10 +160,11 @@ pub fn used_in(uses: bool, key: [u8; 16], keys: AccountKeys) -> AccountKeys
     requires { Kept keys }
     ensures { result ≡ rule.used_in uses key keys }
 {
-    if !uses {
-        return keys;
+    if uses {
+        keys.used(AccountKey { bytes: key })
+    } else {
+        keys
     }
-    keys.used(AccountKey { bytes: key })
 }
 
 // The length of the packet with the name; 0 where none is sent.
@@ -124,44 +172,24 @@ pub fn packet_length(sends: bool, name: Name) -> u8
     requires { names.Valid name }
     ensures { result ≡ rule.packet_length sends name }
 {
-    if !sends {
-        return 0;
+    if sends {
+        additional_data::packet_size(name)
+    } else {
+        0
     }
-    additional_data::packet_size(name)
-}
-
-// The response, if the request was accepted.
-fn respond(answer: Answer, key: [u8; 16], public: Address, salt: [u8; 9], out: &mut [u8])
-    requires { 16 ≤ length out.old }
-    ensures { out.new ≡ rule.responded_to answer key public salt out.old }
-{
-    if !answer.is_taken() {
-        return;
-    }
-    basics::put(out, 0, response(key, public, salt));
-}
-
-// The packet with the name, if it is sent.
-fn send_name(sends: bool, key: [u8; 16], name: Name, nonce: [u8; 8], packet: &mut [u8])
-    requires { names.Valid name × (80 ≤ length packet.old) }
-    ensures { packet.new ≡ rule.packet_to sends key name nonce packet.old }
-{
-    if !sends {
-        return;
-    }
-    additional_data::seal(key, nonce, name, packet);
 }
 
 // Answers 5, 16 and 6, and then what the keys tried come to.
+#[tactic(auto, unfolding(crate::specs::Decision::decided))]
 fn decided(
     context: Context,
     session: Session,
     clock: Moment,
     request: &[u8],
-    element: Element,
+    secret: Option<[u8; 32]>,
 ) -> Decision
     requires { Kept context.keys × guards.Valid context.guard × (sized request.now ≡ true) }
-    ensures { result ≡ rule.decided context session clock.0 element request.now }
+    ensures { result ≡ rule.decided context session clock.0 secret request.now }
 {
     let guard = context.guard;
     if guard.locked() {
@@ -173,42 +201,41 @@ fn decided(
     if is_unwanted(request, context.pairing) {
         return refused(guard, session, Answer::NotInPairingMode, 0);
     }
-    let ble = context.ble;
-    let public = context.public;
-    let keys = context.keys;
-    let search = try_keys(ble, public, keys, element, request);
+    let addresses = Addresses {
+        ble: context.ble,
+        public: context.public,
+    };
+    let search = addresses.try_keys(context.keys, secret, request);
     settled(guard, session, clock, request.len() != 80, search)
 }
 
 // No fit is a failure, a spent salt is refused, and else the request is accepted.
+#[tactic(auto, unfolding(crate::specs::Decision::settled))]
 fn settled(guard: Guard, session: Session, clock: Moment, uses: bool, search: Search) -> Decision
     requires { guards.Valid guard × (guard.failures.count < 10) }
     ensures { result ≡ rule.settled guard session clock.0 uses search }
 {
-    let named = search.named;
-    if !named.is_fitting() {
+    let Some(found) = search.found else {
         return refused(
             guard.failed(clock),
             session,
             Answer::NoKeyFits,
             search.tried,
         );
-    }
-    let plain = search.plain;
-    let salt = request_salt(plain);
+    };
+    let salt = request_salt(found.plain);
     if guard.is_spent(salt) {
         return refused(guard, session, Answer::SaltSpent, search.tried);
     }
-    let key = search.key;
     Decision {
         answer: Answer::Taken,
         tried: search.tried,
-        named: named,
-        bond: bond_asked(plain),
+        named: Some(found.named),
+        bond: bond_asked(found.plain),
         guard: guard.accepted(salt),
-        session: asked(key, clock),
-        sends: name_asked(plain),
-        uses: uses,
+        session: asked(found.key, clock),
+        sends: name_asked(found.plain),
+        uses,
     }
 }
 
@@ -217,12 +244,12 @@ fn refused(guard: Guard, session: Session, answer: Answer, tried: u8) -> Decisio
     ensures { result ≡ rule.refused guard session answer tried }
 {
     Decision {
-        answer: answer,
-        tried: tried,
-        named: Named::Neither,
-        bond: no_bond(),
-        guard: guard,
-        session: session,
+        answer,
+        tried,
+        named: None,
+        bond: None,
+        guard,
+        session,
         sends: false,
         uses: false,
     }
@@ -240,149 +267,60 @@ fn asked(key: [u8; 16], clock: Moment) -> Session
 {
     Session {
         stage: Stage::Asked,
-        key: key,
+        key,
         since: clock,
         passkey: 0,
     }
 }
 
-// The candidates of a request of 16 or 80 bytes, tried in order up to the first that fits.
-fn try_keys(
-    ble: Address,
-    public: Address,
-    keys: AccountKeys,
-    element: Element,
-    request: &[u8],
-) -> Search
-    requires { Kept keys × (sized request.now ≡ true) }
-    ensures { result ≡ searched ble public (held keys) element request.now }
+fn none_fits(tried: u8) -> Search
+    ensures { result ≡ none_fits tried }
 {
-    let block = basics::sixteen(request, 0);
-    if request.len() != 80 {
-        return try_owners(ble, public, keys, block);
-    }
-    if !element.accepted {
-        return none_fits(0);
-    }
-    let digest = sha256::digest(&element.secret);
-    let key = basics::sixteen(&digest, 0);
-    try_key(ble, public, key, block, 0)
-}
-
-// The account keys, in list order.
-fn try_owners(ble: Address, public: Address, keys: AccountKeys, block: [u8; 16]) -> Search
-    requires { Kept keys }
-    ensures { result ≡ handed_over ble public block (tried ble public block 0 (map (λ k. k.bytes) (held keys))) }
-{
-    let n = keys.count;
-    let mut last = none_fits(0);
-    let mut i = 0;
-    while i < n {
-        let owner = keys.keys[i];
-        let key = owner.bytes;
-        let attempt = try_key(ble, public, key, block, i as u8);
-        let named = attempt.named;
-        last = attempt;
-        if named.is_fitting() {
-            break;
-        }
-        i += 1;
-    }
-    last
-}
-
-// One of the keys held, after `before` others.
-fn try_key(ble: Address, public: Address, key: [u8; 16], block: [u8; 16], before: u8) -> Search
-    requires { before < limit }
-    ensures { result ≡ handed_over ble public block (tried ble public block before (key ∷ [])) }
-{
-    let plain = aes128::decrypt(key, block);
-    let named = named::address_named(ble, public, plain);
-    if !named.is_fitting() {
-        return none_fits(before + 1);
-    }
-    Search {
-        named: named,
-        tried: before + 1,
-        key: key,
-        plain: plain,
-    }
-}
-
-fn none_fits(count: u8) -> Search
-    ensures { result ≡ none_fits count }
-{
-    Search {
-        named: Named::Neither,
-        tried: count,
-        key: [0u8; 16],
-        plain: [0u8; 16],
-    }
+    Search { tried, found: None }
 }
 
 // The salt of a request: two bytes where bytes 8 to 13 hold the seeker's address.
 fn request_salt(plain: [u8; 16]) -> Salt
     ensures { result ≡ request_salt plain }
 {
-    let flags = plain[1];
-    if flags & 0x50 == 0 {
-        return Salt {
-            length: 8,
-            bytes: [
-                plain[8], plain[9], plain[10], plain[11], plain[12], plain[13], plain[14],
-                plain[15],
-            ],
-        };
-    }
+    let salt = if plain[1] & 0x50 == 0 {
+        &plain[8..]
+    } else {
+        &plain[14..]
+    };
+    let mut bytes = [0u8; 8];
+    bytes[..salt.len()].copy_from_slice(salt);
     Salt {
-        length: 2,
-        bytes: [plain[14], plain[15], 0, 0, 0, 0, 0, 0],
+        length: salt.len() as u8,
+        bytes,
     }
 }
 
 // The address that the request asks us to bond with.
-fn bond_asked(plain: [u8; 16]) -> Bond
+fn bond_asked(plain: [u8; 16]) -> Option<Address>
     ensures { result ≡ bond_asked plain }
 {
-    let flags = plain[1];
-    if flags & 0x40 == 0 {
-        return no_bond();
-    }
-    Bond {
-        wanted: true,
-        address: Address {
-            bytes: [
-                plain[8], plain[9], plain[10], plain[11], plain[12], plain[13],
-            ],
-        },
-    }
+    let wanted = plain[1] & 0x40 != 0;
+    wanted.then_some(Address {
+        bytes: basics::part(&plain, 8),
+    })
 }
 
 // Flag 0x20 asks for the name.
 fn name_asked(plain: [u8; 16]) -> bool
     ensures { result ≡ name_asked plain }
 {
-    let flags = plain[1];
-    flags & 0x20 != 0
-}
-
-pub fn no_bond() -> Bond
-    ensures { result ≡ no_bond }
-{
-    Bond {
-        wanted: false,
-        address: Address { bytes: [0u8; 6] },
-    }
+    plain[1] & 0x20 != 0
 }
 
 // The response to an accepted request, encrypted with its key.
+#[tactic(auto, unfolding(crate::specs::Request::response))]
 fn response(key: [u8; 16], public: Address, salt: [u8; 9]) -> [u8; 16]
     ensures { result ≡ spec.response key public salt }
 {
-    let a = public.bytes;
-    let block = [
-        0x01, a[0], a[1], a[2], a[3], a[4], a[5], salt[0], salt[1], salt[2], salt[3], salt[4],
-        salt[5], salt[6], salt[7], salt[8],
-    ];
+    let mut block = [0u8; 16];
+    block[7..].copy_from_slice(&salt);
+    block[1..7].copy_from_slice(&public.bytes);
+    block[0] = 0x01;
     aes128::encrypt(key, block)
 }

@@ -7,7 +7,7 @@ use native.Mathlib.Nat.{le_refl, sub-zero, zero-sub, suc-sub-suc, le_of_suc-le-s
 use native.Mathlib.Numerals.{add-one}
 use native.Mathlib.Omega.{arith}
 use lib.ListN.{length, take, drop, set, get_or, replicate, length-drop, length-take, length-map, drop_of_length-le}
-use lib.Seq.{get_or_at, set_at, append_snoc, set-get_or, take_at, drop-append-add, length-take-le, get_or-take, take-suc, drop-cons, get_or-drop, take-suc-set, take_all, take-length, sets, sets-eq, paste, paste-suc}
+use lib.Seq.{get_or_at, set_at, append_snoc, set-get_or, take_at, drop-append-add, length-take-le, get_or-take, take-suc, drop-cons, take-suc-set, take_all, take-length, sets, sets-eq, paste, paste-suc}
 
 -- a turn of a loop that fills a list from the front
 pub take_set_more {ℓ} : {A : Type ℓ} (l : List A) (i : ℕ) (a : A) → i < length l → take (i + 1) (set l i a)
@@ -33,14 +33,6 @@ take_drop_rest k l = take_all (length l - k) (drop k l) (simp length-drop (le_re
 pub drop_more {ℓ} : {A : Type ℓ} (l : List A) (i : ℕ) (z : A) → i < length l → drop i l ≡ get_or l i z ∷ drop
     (i + 1) l
 drop_more l i z h = rw (add-one, drop-cons l i z h)
-
--- a turn of a loop that copies s from at on into l
-pub copy_more {ℓ} : {A : Type ℓ} (l s : List A) (at i : ℕ) (z : A) → take i l ≡ take i (drop at s)
-    → i < length l
-    → at + i < length s → take (i + 1) (set l i (get_or s (at + i) z)) ≡ take (i + 1) (drop at s)
-copy_more l s at i z e h k =
-    let inside : i < length (drop at s) = simp length-drop (omega arith) in
-    rw (take_set_more l i (get_or s (at + i) z) h, e, add-one, take-suc (drop at s) i z inside, get_or-drop at s i z)
 
 -- what is left of the first n elements
 pub drop_take_more {ℓ} : {A : Type ℓ} (l : List A) (n i : ℕ) (z : A) → i < n → n ≤ length l

@@ -3,15 +3,24 @@
 use mathlib.Core.Bool.{true, false}
 use mathlib.Core.List.{List, [], ◌∷◌}
 use mathlib.Core.Path.{◌≡◌, refl, sym, ap, ◌∙◌}
-use Prim.Native.Nat.{ℕ, zero, suc, ◌+◌, ◌-◌, ◌≤◌, ◌<◌}
+use Prim.Native.Nat.{ℕ, zero, suc, ◌-◌, ◌≤◌, ◌<◌}
 use native.Mathlib.Omega.{arith}
-use lib.Dec.{eqb}
-use lib.ListN.{length, drop, get_or, drop_of_length-le}
-use borrow.Author.Tests.{ne_eqb}
-use Rattle.laws.proofs.Lists.{drop_more}
-use Rattle.names.specs.Expected.{ranges_of, to_come, decides}
+use lib.Dec.{eqb, leb}
+use lib.ListN.{length, drop, drop_of_length-le}
+use borrow.Author.Tests.{le-leb, lt-leb, ne_eqb}
+use Rattle.laws.proofs.Choice.{and_false}
+use Rattle.names.specs.Expected.{ranges_of, to_come}
 use Rattle.names.specs.Utf8.{Range, ◌to◌, tail, within, begins, characters, continues, is_utf8}
 use Rattle.names.specs.declared.utf8.Expected.{Expected}
+
+pub within_range : (r : Range) (b : ℕ) → r.low ≤ b → b ≤ r.high → within r b ≡ true
+within_range r b h k = rw (le-leb r.low b h, le-leb b r.high k)
+
+pub before_range : (r : Range) (b : ℕ) → b < r.low → within r b ≡ false
+before_range r b h = rw (lt-leb r.low b h)
+
+pub past_range : (r : Range) (b : ℕ) → r.high < b → within r b ≡ false
+past_range r b h = rw (lt-leb b r.high h) (and_false (leb r.low b))
 
 module _ (r : Range) (b : ℕ) (l : List ℕ) where
   -- nothing is to come: a character begins
@@ -38,21 +47,8 @@ unfolding continues
 continues_end zero r = refl
 continues_end (suc m) r = sym (ne_eqb (suc m) 0 (λ e. omega arith))
 
--- a turn of a loop over the bytes l: what was to come before byte i decides, so what is to come after it does
-module _ (l : List ℕ) (i : ℕ) (e : Expected) (known : continues (to_come e) (drop i l) ≡ is_utf8 l) where
-  module _ (f : Expected) (h : i < length l)
-      (step : (k : List ℕ) → continues (to_come e) (get_or l i 0 ∷ k) ≡ decides f (λ rest. continues rest k)) where
-    decided : decides f (λ rest. continues rest (drop (i + 1) l)) ≡ is_utf8 l
-    decided = sym (step (drop (i + 1) l)) ∙ ap (continues (to_come e)) (sym (drop_more l i 0 h)) ∙ known
-
-    pub refused_here : f.refused ≡ true → false ≡ is_utf8 l
-    refused_here q = rw q at decided
-
-    pub continues_more : f.refused ≡ false → continues (to_come f) (drop (i + 1) l) ≡ is_utf8 l
-    continues_more q = rw q at decided
-
-  -- no byte is left
-  pub continues_all : length l ≤ i → eqb e.more 0 ≡ is_utf8 l
-  continues_all h =
-      sym (continues_end e.more (e.low to e.high)) ∙ ap (continues (to_come e)) (sym (drop_of_length-le l h))
-      ∙ known
+-- no byte is left of those that a loop goes over
+pub continues_all : (l : List ℕ) (i : ℕ) (e : Expected) → continues (to_come e) (drop i l) ≡ is_utf8 l → length l ≤ i
+    → eqb e.more 0 ≡ is_utf8 l
+continues_all l i e known h =
+    sym (continues_end e.more (e.low to e.high)) ∙ ap (continues (to_come e)) (sym (drop_of_length-le l h)) ∙ known

@@ -1,4 +1,2 @@
-pub mod Characters
 pub mod Continues
-pub mod Readings
 pub mod ValidNames

@@ -2,20 +2,18 @@
 -- Assumes nothing.
 use mathlib.Core.Bool.{Bool, true, false}
 use mathlib.Core.List.{List}
-use mathlib.Core.Path.{◌≡◌, refl, sym, ap, ◌∙◌}
+use mathlib.Core.Path.{◌≡◌, refl, sym, ap}
 use Prim.Native.Nat.{ℕ, ◌≤◌}
 use native.Mathlib.Omega.{arith}
 use lib.Dec.{leb}
 use lib.ListN.{length}
 use borrow.Author.Tests.{le-leb, leb-true}
-use Rattle.std.specs.Prelude.{if◌then◌else◌}
-use Rattle.laws.proofs.Choice.{true_is, and_left, and_right, if_holds}
+use Rattle.std.specs.Prelude.{if◌then◌else◌, None, Some}
+use Rattle.laws.proofs.Choice.{and_left, and_right}
 use Rattle.laws.proofs.Padded.{take_padded}
-use Rattle.names.specs.Name.{is_name, text_of, name_of, no_name, not_a_name, reading, read_again, Valid}
+use Rattle.names.specs.Name.{is_name, text_of, name_of, no_name, reading, read_again, Valid}
 use Rattle.names.specs.Utf8.{is_utf8, continues}
 use Rattle.names.specs.declared.Name.{Name}
-use Rattle.names.specs.declared.NameReading.{NameReading}
-use Rattle.names.proofs.Readings.{is_name_lem, name_read}
 
 pub text_of_name_of : (l : List ℕ) → text_of (name_of l) ≡ l
 text_of_name_of l = take_padded 64 0 l
@@ -33,26 +31,28 @@ pub no_name_valid : Valid no_name
 unfolding continues
 no_name_valid = record { few = omega arith; whole = refl; text = refl }
 
-pub reading_valid : (l : List ℕ) → Valid (reading l).name
-reading_valid l = by-test (is_name l) refl
+-- what is read holds the text, which is a name's
+pub good_reading : (l : List ℕ) {n : Name} → reading l ≡ Some n → (is_name l ≡ true) × (n ≡ name_of l)
+good_reading l {n} = by-test (is_name l) refl
   where
-    by-test : (b : Bool) → is_name l ≡ b → Valid
-        (if b then record { good = true; name = name_of l } else not_a_name).name
-    by-test true e = name_of_valid l e
-    by-test false e = no_name_valid
+    by-test : (b : Bool) → is_name l ≡ b → (if b then Some (name_of l) else None) ≡ Some n
+        → (is_name l ≡ true) × (n ≡ name_of l)
+    by-test true e h = (e, cc)
+    by-test false e h = cc
 
-pub good_reading : (l : List ℕ) → (reading l).good ≡ true → (is_name l ≡ true) × ((reading l).name ≡ name_of l)
-good_reading l g = by-test (is_name l) refl g
+pub reading_valid : (l : List ℕ) {n : Name} → reading l ≡ Some n → Valid n
+reading_valid l e = let good = good_reading l e in rw good.1 (name_of_valid l good.0)
+
+pub read_again_valid : (n : Name) {m : Name} → read_again n ≡ Some m → Valid m
+read_again_valid n {m} = by-test (leb n.length 64)
   where
-    by-test : (b : Bool) → is_name l ≡ b
-        → (if b then record { good = true; name = name_of l } else not_a_name).good ≡ true
-        → (is_name l ≡ true) × ((if b then record { good = true; name = name_of l } else not_a_name).name ≡ name_of l)
-    by-test true e h = (e, refl)
-    by-test false e h = absurd (true_is h)
+    by-test : (b : Bool) → (if b then reading (text_of n) else None) ≡ Some m → Valid m
+    by-test true h = reading_valid (text_of n) h
+    by-test false h = cc
 
-pub read_again_valid : (n : Name) → Valid (read_again n).name
-read_again_valid n =
-    if_holds (λ (r : NameReading). Valid r.name) (leb n.length 64) (reading_valid (text_of n)) (λ e. no_name_valid)
+pub is_name_lem : (l : List ℕ) → length l ≤ 64 → is_utf8 l ≡ true → is_name l ≡ true
+unfolding is_name
+is_name_lem l h e = rw (le-leb (length l) 64 h, e)
 
 module _ {n : Name} (v : Valid n) where
   pub length_text : length (text_of n) ≡ n.length
@@ -64,7 +64,6 @@ module _ {n : Name} (v : Valid n) where
   pub valid_is_name : is_name (text_of n) ≡ true
   valid_is_name = is_name_lem (text_of n) text_few v.text
 
-pub valid_reads_again : (n : Name) → Valid n → read_again n ≡ record { good = true; name = n }
+pub valid_reads_again : (n : Name) → Valid n → read_again n ≡ Some n
 valid_reads_again n v =
-    rw (le-leb n.length 64 v.few) (name_read (text_of n) (text_few v) v.text
-    ∙ ap (λ (m : Name). record { good = true; name = m }) (sym v.whole))
+    rw (le-leb n.length 64 v.few, valid_is_name v) (ap (λ (m : Name). Some m) (sym v.whole))

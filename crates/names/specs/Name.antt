@@ -1,11 +1,10 @@
 -- Document 02 (i): "Names are 0 to 64 bytes of valid UTF-8".
 -- Assumes nothing.
-use Rattle.std.specs.Prelude.{Bool, true, false, List, [], ◌≡◌, ℕ, ◌≤◌, leb, length, take, if◌then◌else◌}
+use Rattle.std.specs.Prelude.{Bool, true, List, [], ◌≡◌, ℕ, ◌≤◌, leb, length, take, if◌then◌else◌, Option, None, Some}
 use Rattle.laws.specs.Choice.{◌and◌}
 use Rattle.laws.specs.Lists.{padded}
 use Rattle.names.specs.Utf8.{is_utf8}
 use Rattle.names.specs.declared.Name.{Name}
-use Rattle.names.specs.declared.NameReading.{NameReading}
 
 -- "0 to 64 bytes of valid UTF-8"
 unfoldable pub is_name : List ℕ → Bool
@@ -22,17 +21,13 @@ name_of text = record { length = length text; bytes = padded 64 0 text }
 abbrev pub no_name : Name
 no_name = name_of []
 
--- bytes that are no name read as the empty one, beside the word that says so
-abbrev pub not_a_name : NameReading
-not_a_name = record { good = false; name = no_name }
-
 -- bytes are read as a name, or not at all
-abbrev pub reading : List ℕ → NameReading
-reading text = if is_name text then record { good = true; name = name_of text } else not_a_name
+abbrev pub reading : List ℕ → Option Name
+reading text = if is_name text then Some (name_of text) else None
 
 -- a name whose fields may hold anything, read again
-abbrev pub read_again : Name → NameReading
-read_again n = if leb n.length 64 then reading (text_of n) else not_a_name
+abbrev pub read_again : Name → Option Name
+read_again n = if leb n.length 64 then reading (text_of n) else None
 
 -- what holds of every name that was read
 pub record Valid (n : Name) : Type 0 where

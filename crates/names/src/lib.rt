@@ -17,13 +17,6 @@ pub struct Name {
     pub bytes: [u8; NAME_MAX],
 }
 
-// What reading came to; `name` is the empty one where the bytes are none.
-#[derive(Clone, Copy)]
-pub struct NameReading {
-    pub good: bool,
-    pub name: Name,
-}
-
 impl Name {
     // The empty name.
     pub fn none() -> Name
@@ -36,42 +29,25 @@ impl Name {
     }
 
     // A name whose fields may hold anything, read again.
-    pub fn read_again(self) -> NameReading
+    pub fn read_again(self) -> Option<Name>
         ensures { result ≡ spec.read_again self }
     {
-        let n = self.length as usize;
-        if NAME_MAX < n {
-            return not_a_name();
+        if self.length > NAME_MAX as u64 {
+            return None;
         }
-        let bytes = self.bytes;
-        read(&bytes[..n])
+        read(&self.bytes[..self.length as usize])
     }
 }
 
 // Any bytes, read as a name.
-pub fn read(text: &[u8]) -> NameReading
+#[tactic(auto, unfolding(crate::specs::Name::is_name))]
+pub fn read(text: &[u8]) -> Option<Name>
     ensures { result ≡ spec.reading text.now }
 {
-    if NAME_MAX < text.len() {
-        return not_a_name();
+    if NAME_MAX < text.len() || !utf8::is_utf8(text) {
+        return None;
     }
-    if !utf8::is_utf8(text) {
-        return not_a_name();
-    }
-    NameReading {
-        good: true,
-        name: name_of(text),
-    }
-}
-
-// The reading of bytes that are no name.
-fn not_a_name() -> NameReading
-    ensures { result ≡ spec.not_a_name }
-{
-    NameReading {
-        good: false,
-        name: Name::none(),
-    }
+    Some(name_of(text))
 }
 
 // The name that holds `text`.
@@ -83,6 +59,6 @@ fn name_of(text: &[u8]) -> Name
     basics::copy(&mut bytes, 0, text);
     Name {
         length: text.len() as u64,
-        bytes: bytes,
+        bytes,
     }
 }

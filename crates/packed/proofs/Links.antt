@@ -1,19 +1,18 @@
 -- Links in packed numbers read back, and any numbers are read as links.
 -- Assumes nothing.
-use mathlib.Core.Bool.{true, false}
-use mathlib.Core.List.{List, [], ◌∷◌}
+use mathlib.Core.Bool.{true}
+use mathlib.Core.List.{List}
 use mathlib.Core.Path.{◌≡◌, refl, sym, ap, ◌∙◌}
-use Prim.Native.Nat.{ℕ, zero, suc, ◌+◌, ◌≤◌, ◌<◌}
-use native.Mathlib.Nat.{le_of_suc-le-suc, not-suc-le-zero}
+use Prim.Native.Nat.{ℕ, zero, suc, ◌<◌}
 use native.Mathlib.Omega.{arith}
 use lib.Dec.{leb, eqb}
-use lib.ListN.{length, drop, get_or}
-use borrow.Author.Tests.{le-leb, lt-leb, eq-eqb, ne_eqb}
+use lib.ListN.{length, get_or}
 use Rattle.laws.proofs.All.{all_get}
 use Rattle.laws.proofs.Choice.{if_holds}
-use Rattle.laws.proofs.Filled.{get_d_tabulate, tabulate_ext, tabulate_get_or}
-use Rattle.laws.proofs.Lists.{drop_more}
-use Rattle.laws.specs.Choice.{◌and◌}
+use Rattle.laws.proofs.Filled.{length_tabulate, get_d_tabulate, tabulate_ext, tabulate_get_or}
+use denote.Param.Members.{Mut, Called}
+use lib.Seq.{ext_get_or}
+use Rattle.std.specs.Array.{IsMapOf}
 use Rattle.laws.specs.Lists.{All}
 use Rattle.laws.specs.Tabulate.{tabulate}
 use Rattle.basics.specs.declared.Moment.{Moment}
@@ -21,7 +20,7 @@ use Rattle.packed.specs.Packed.{no_session, packed_session, held_in, session_of,
 use Rattle.packed.specs.declared.FpSession.{FpSession}
 use Rattle.pairing.proofs.SessionSteps.{in_a_stage}
 use Rattle.provider.proofs.Theorems.ValidParts.{idle_holds_nothing}
-use Rattle.sessions.specs.Sessions.{Canonical, link_count, idle, session_at, stage_number, absent_session}
+use Rattle.sessions.specs.Sessions.{Canonical, link_count, session_at, stage_number, absent_session}
 use Rattle.sessions.specs.declared.Session.{Session}
 use Rattle.sessions.specs.declared.Sessions.{Sessions}
 use Rattle.sessions.specs.declared.Stage.{Stage}
@@ -42,44 +41,16 @@ back Paired key since passkey c = refl
 session_back : (s : Session) → Canonical s → session_of (packed_session s) ≡ s
 session_back s = back s.stage s.key s.since s.passkey
 
--- each number in its turn
-module _ (f : FpSession) where
-  pub asked : f.stage ≡ 1 → session_of f ≡ held_in f Asked
-  asked h = rw (eq-eqb f.stage 1 h)
-
-  module _ (one : f.stage ≡ 1 → ⊥) where
-    pub pairing : f.stage ≡ 2 → session_of f ≡ held_in f Pairing
-    pairing h = rw (ne_eqb f.stage 1 one, eq-eqb f.stage 2 h)
-
-    module _ (two : f.stage ≡ 2 → ⊥) where
-      pub confirming : f.stage ≡ 3 → session_of f ≡ held_in f Confirming
-      confirming h = rw (ne_eqb f.stage 1 one, ne_eqb f.stage 2 two, eq-eqb f.stage 3 h)
-
-      module _ (three : f.stage ≡ 3 → ⊥) where
-        pub proved : f.stage ≡ 4 → session_of f ≡ held_in f Proved
-        proved h =
-            rw (ne_eqb f.stage 1 one, ne_eqb f.stage 2 two, ne_eqb f.stage 3 three, eq-eqb f.stage 4 h)
-
-        module _ (four : f.stage ≡ 4 → ⊥) where
-          pub paired : f.stage ≡ 5 → session_of f ≡ held_in f Paired
-          paired h =
-              rw (
-                ne_eqb f.stage 1 one,
-                ne_eqb f.stage 2 two,
-                ne_eqb f.stage 3 three,
-                ne_eqb f.stage 4 four,
-                eq-eqb f.stage 5 h,
-              )
-
-          pub no_stage : (f.stage ≡ 5 → ⊥) → session_of f ≡ idle
-          no_stage five =
-              rw (
-                ne_eqb f.stage 1 one,
-                ne_eqb f.stage 2 two,
-                ne_eqb f.stage 3 three,
-                ne_eqb f.stage 4 four,
-                ne_eqb f.stage 5 five,
-              )
+-- an array's links one by one, where each call gives what g does
+pub each_link : {F A B : Type 0} {m : Mut F (A × Unit {0}) B} {f : F} {xs : List A} {ys : List B} (g : A → B) (absent : A) → B
+    → IsMapOf m f xs ys link_count → ((x : A) (y : B) (p q : F) → Called m p (x, tt) y q → y ≡ g x)
+    → ys ≡ tabulate link_count (λ l. g (get_or xs l absent))
+each_link {xs = xs} {ys = ys} g absent none m e =
+    ext_get_or none ys (tabulate link_count (λ l. g (get_or xs l absent))) (m.long ∙ sym (length_tabulate link_count (λ l. g (get_or xs l absent))))
+    (λ l h.
+    let k : l < link_count = omega (arith, m.long) in
+    let c = m.at l absent none k in
+    e _ _ _ _ c.2 ∙ sym (get_d_tabulate link_count (λ l. g (get_or xs l absent)) l none k))
 
 pub links_back : (ss : Sessions) → length ss.links ≡ link_count → All Canonical ss.links → links_of (packed_links ss) ≡ ss
 links_back ss e p = λ i. record { links = go i }
@@ -107,23 +78,6 @@ stages_known_lem (suc n) f p = rw (p zero) (stages_known_lem n (λ l. f (suc l))
 pub known_back : (ss : Sessions) → stages_known (packed_links ss) ≡ true
 known_back ss =
     stages_known_lem link_count (λ l. packed_session (session_at ss l)) (λ l. stage_small (session_at ss l).stage)
-
--- a loop over the links: the first of those left decides, or the others do
-module _ (fs : List FpSession) (i : ℕ) (h : i < length fs) where
-  split : stages_known (drop i fs) ≡ (leb (get_or fs i no_session).stage 5 and stages_known (drop (i + 1) fs))
-  split = ap stages_known (drop_more fs i no_session h)
-
-  pub stage_unknown : 5 < (get_or fs i no_session).stage → false ≡ stages_known (drop i fs)
-  stage_unknown k = sym (split ∙ rw (lt-leb (get_or fs i no_session).stage 5 k))
-
-  pub stage_known : (get_or fs i no_session).stage ≤ 5 → stages_known (drop (i + 1) fs) ≡ stages_known (drop i fs)
-  stage_known k = sym (split ∙ rw (le-leb (get_or fs i no_session).stage 5 k))
-
-pub stages_done : (fs : List FpSession) (i : ℕ) → length fs ≤ i → true ≡ stages_known (drop i fs)
-stages_done [] zero h = refl
-stages_done [] (suc i) h = refl
-stages_done (f ∷ fs) zero h = absurd (not-suc-le-zero h)
-stages_done (f ∷ fs) (suc i) h = stages_done fs i (le_of_suc-le-suc h)
 
 -- whatever number and fields were handed in
 pub session_canonical : (f : FpSession) → Canonical (session_of f)

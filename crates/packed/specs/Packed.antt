@@ -1,18 +1,18 @@
 -- A device in plain numbers, as C holds it, and how it is read back.
 -- Assumes nothing.
-use Rattle.std.specs.Prelude.{Bool, true, false, not, List, [], ◌∷◌, ℕ, leb, eqb, length, take, get_or, replicate, if◌then◌else◌}
+use Rattle.std.specs.Prelude.{Bool, true, false, List, [], ℕ, leb, eqb, length, take, get_or, replicate, Option, Some, None, Result, Ok, Err, is_some, unwrap_or, option_and_then, if◌then◌else◌}
+use Rattle.std.specs.List.{list_all}
 use Rattle.laws.specs.Choice.{◌and◌}
 use Rattle.laws.specs.Lists.{padded}
 use Rattle.laws.specs.Tabulate.{tabulate}
 use Rattle.account_keys.specs.Keys.{held}
-use Rattle.account_keys.specs.StoredList.{stored_list_max, reading, no_reading, writing}
+use Rattle.account_keys.specs.StoredList.{stored_list_max, reading, writing}
 use Rattle.account_keys.specs.declared.AccountKeys.{AccountKeys}
-use Rattle.account_keys.specs.declared.ListForm.{ListForm}
-use Rattle.account_keys.specs.declared.ListForm.TheVariants.{WellFormed, Malformed}
-use Rattle.account_keys.specs.declared.Reading.{Reading}
-use Rattle.basics.specs.declared.Report.{Report}
+use Rattle.basics.specs.declared.Address.{Address}
+use Rattle.basics.specs.declared.Answer.{Answer}
+use Rattle.basics.specs.declared.Answer.TheVariants.{Taken}
 use Rattle.key_based.specs.Named.{named_number, asks_rotation}
-use Rattle.key_based.specs.declared.Element.{Element}
+use Rattle.packed.specs.declared.FpBond.{FpBond}
 use Rattle.packed.specs.declared.FpDevice.{FpDevice}
 use Rattle.packed.specs.declared.FpElement.{FpElement}
 use Rattle.packed.specs.declared.FpOutcome.{FpOutcome}
@@ -25,7 +25,7 @@ use Rattle.names.specs.Name.{read_again}
 use Rattle.names.specs.declared.Name.{Name}
 use Rattle.provider.specs.Rules.Control.{off}
 use Rattle.pairing.specs.declared.Confirm.{Confirm}
-use Rattle.pairing.specs.declared.Confirm.TheVariants.{Unasked, Yes, No}
+use Rattle.pairing.specs.declared.Confirm.TheVariants.{Yes, No}
 use Rattle.provider.specs.declared.Device.{Device}
 use Rattle.provider.specs.declared.Outcome.{Outcome}
 use Rattle.provider.specs.declared.Reply.{Reply}
@@ -72,8 +72,7 @@ links_of fs = record { links = tabulate link_count (λ l. session_of (get_or fs 
 
 -- every link has the number of a stage, or 0
 abbrev pub stages_known : List FpSession → Bool
-stages_known [] = true
-stages_known (f ∷ fs) = leb f.stage 5 and stages_known fs
+stages_known fs = list_all (λ f. leb f.stage 5) fs
 
 -- ---- account keys
 
@@ -86,12 +85,8 @@ packed_keys ks =
           replicate 4 0;
     }
 
-abbrev pub list_of : FpStored → Reading
-list_of s = if leb s.length stored_list_max then reading (take s.length s.bytes) else no_reading
-
-abbrev pub is_well_formed : ListForm → Bool
-is_well_formed WellFormed = true
-is_well_formed Malformed = false
+abbrev pub list_of : FpStored → Option AccountKeys
+list_of s = if leb s.length stored_list_max then reading (take s.length s.bytes) else None
 
 -- ---- devices
 
@@ -136,10 +131,6 @@ flags_known f = leb f.pairing 1 and leb f.awaited 1
 abbrev pub numbers_known : FpDevice → Bool
 numbers_known f = guard_known f and stages_known f.sessions and flags_known f
 
--- the bytes that are served as a device; those in places that are not in use do not count
-unfoldable pub is_device : FpDevice → Bool
-is_device f = is_well_formed (list_of f.stored).form and (read_again f.name).good and numbers_known f
-
 -- the device that they are, with its keys and its name; the filter is taken as it stands, since to check it is to build it
 abbrev pub with_parts : FpDevice → AccountKeys → Name → Device
 with_parts f keys name =
@@ -154,16 +145,30 @@ with_parts f keys name =
       name = name;
     }
 
+-- the device that the bytes are, or none where they are not served; those in places that are not in use do not count
+unfoldable pub unpacked : FpDevice → Option Device
+unpacked f =
+    option_and_then
+    (λ keys. option_and_then (λ name. if numbers_known f then Some (with_parts f keys name) else None) (read_again f.name))
+    (list_of f.stored)
+
+abbrev pub is_device : FpDevice → Bool
+is_device f = is_some (unpacked f)
+
 -- bytes that are not served stand for the value before any device
-unfoldable pub device_of : FpDevice → Device
-device_of f = if is_device f then with_parts f (list_of f.stored).keys (read_again f.name).name else off
+abbrev pub device_of : FpDevice → Device
+device_of f = unwrap_or (unpacked f) off
 
 -- ---- answers
 
-abbrev pub confirm_number : Confirm → ℕ
-confirm_number Unasked = 0
-confirm_number Yes = 1
-confirm_number No = 2
+abbrev pub confirm_number : Option Confirm → ℕ
+confirm_number None = 0
+confirm_number (Some Yes) = 1
+confirm_number (Some No) = 2
+
+-- zeros where no address is handed out
+abbrev pub packed_bond : Option Address → FpBond
+packed_bond b = record { wanted = is_some b; address = unwrap_or b (record { bytes = replicate 6 0 }) }
 
 abbrev pub packed_reply : Reply → FpReply
 packed_reply r =
@@ -174,15 +179,17 @@ packed_reply r =
       packet = r.packet;
       named = named_number r.named;
       rotate = asks_rotation r.named;
-      bond = r.bond;
+      bond = packed_bond r.bond;
     }
 
 abbrev pub packed_outcome : Outcome → FpOutcome
 packed_outcome o = record { next = packed o.next; reply = packed_reply o.reply; reserved = replicate 3 0 }
 
-abbrev pub packed_report : Report → FpReport
-packed_report r = record { length = r.length; answer = answer_number r.answer; reserved = replicate 7 0 }
+-- the length is handed out with 0
+abbrev pub packed_report : Result ℕ Answer → FpReport
+packed_report (Ok n) = record { length = n; answer = answer_number Taken; reserved = replicate 7 0 }
+packed_report (Err a) = record { length = 0; answer = answer_number a; reserved = replicate 7 0 }
 
--- what the secure element made of a point; 0 is a rejected one
-abbrev pub element_of : FpElement → Element
-element_of e = record { accepted = not (eqb e.accepted 0); secret = e.secret }
+-- what the secure element made of a point; 0 is a rejected one, which has no secret
+abbrev pub element_of : FpElement → Option (List ℕ)
+element_of e = if eqb e.accepted 0 then None else Some e.secret

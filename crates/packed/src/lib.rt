@@ -8,9 +8,8 @@ pub mod unpack;
 use account_keys::STORED_LIST_MAX;
 use advertising::FILTER_MAX;
 use basics::{Address, Moment};
-use key_based::Bond;
 use names::Name;
-use provider::{Device, Identity};
+use provider::Identity;
 use request_guard::SpentSalts;
 use sessions::LINKS;
 
@@ -54,6 +53,14 @@ pub struct FpDevice {
     pub reserved: [u8; 5],
 }
 
+// The address that a seeker asks to be bonded with, if it asks; else zeros.
+#[repr(C)]
+#[derive(Clone, Copy)]
+pub struct FpBond {
+    pub wanted: bool,
+    pub address: Address,
+}
+
 // All that an answer hands out; `confirm` is 0 where the radio is asked nothing, 1 for yes, 2 for no; `packet` is the length of the
 // packet with the name, 0 where none is sent; `named` is 1 where a request named the BLE address, and then `rotate` says so to the
 // radio, 2 for the public address, else 0.
@@ -66,7 +73,7 @@ pub struct FpReply {
     pub packet: u8,
     pub named: u8,
     pub rotate: bool,
-    pub bond: Bond,
+    pub bond: FpBond,
 }
 
 #[repr(C)]
@@ -92,11 +99,4 @@ pub struct FpReport {
 pub struct FpElement {
     pub accepted: u8,
     pub secret: [u8; 32],
-}
-
-// What was handed in, read as a device; `device` is `off` where the bytes are not served.
-#[derive(Clone, Copy)]
-pub struct Unpacked {
-    pub known: bool,
-    pub device: Device,
 }

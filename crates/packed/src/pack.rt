@@ -4,42 +4,41 @@ ghost use Rattle.account_keys.specs.Keys as account;
 ghost use Rattle.packed.specs.Packed as spec;
 ghost use Rattle.provider.specs.Demands.Validity.{Valid};
 
-use crate::{FpDevice, FpOutcome, FpReply, FpReport, FpSession, FpStored};
+use crate::{FpBond, FpDevice, FpOutcome, FpReply, FpReport, FpSession, FpStored};
 use account_keys::{AccountKeys, STORED_LIST_MAX};
-use basics::Report;
+use advertising::Beacon;
+use basics::{Address, Answer};
+use key_based::named::Named;
 use pairing::Confirm;
 use provider::{Device, Outcome, Reply};
 use sessions::{LINKS, Session, Sessions};
 
+#[tactic(auto, unfolding(crate::specs::Packed::packed))]
 pub fn pack(device: Device) -> FpDevice
     requires { Valid device }
     ensures { result ≡ spec.packed device }
 {
-    let clock = device.clock;
-    let keys = device.keys;
-    let sessions = device.sessions;
-    let spent = device.guard.spent;
-    let failed = device.guard.failures.last;
-    let identity = device.identity;
-    let ble = device.beacon.ble;
-    let salt = device.beacon.salt;
-    let filter = device.beacon.filter;
-    let name = device.name;
+    let Beacon {
+        ble,
+        salt,
+        filter,
+        pairing,
+    } = device.beacon;
     FpDevice {
-        clock: clock,
-        sessions: pack_links(sessions),
-        spent: spent,
-        failed: failed,
-        stored: pack_keys(keys),
-        name: name,
-        identity: identity,
-        ble: ble,
-        salt: salt,
-        filter: filter,
-        pairing: flag(device.beacon.pairing),
+        clock: device.clock,
+        sessions: pack_links(device.sessions),
+        spent: device.guard.spent,
+        failed: device.guard.failures.last,
+        stored: pack_keys(device.keys),
+        name: device.name,
+        identity: device.identity,
+        ble,
+        salt,
+        filter,
+        pairing: flag(pairing),
         failures: device.guard.failures.count,
         awaited: flag(device.wait.on),
-        reserved: [0u8; 5],
+        reserved: [0; 5],
     }
 }
 
@@ -47,52 +46,48 @@ pub fn pack_outcome(outcome: Outcome) -> FpOutcome
     requires { Valid outcome.next }
     ensures { result ≡ spec.packed_outcome outcome }
 {
-    let next = outcome.next;
-    let reply = outcome.reply;
     FpOutcome {
-        next: pack(next),
-        reply: pack_reply(reply),
-        reserved: [0u8; 3],
+        next: pack(outcome.next),
+        reply: pack_reply(outcome.reply),
+        reserved: [0; 3],
     }
 }
 
-pub fn pack_report(report: Report) -> FpReport
+pub fn pack_report(report: Result<usize, Answer>) -> FpReport
     ensures { result ≡ spec.packed_report report }
 {
-    let answer = report.answer;
+    let (length, answer) = match report {
+        Ok(length) => (length, Answer::Taken),
+        Err(answer) => (0, answer),
+    };
     FpReport {
-        length: report.length as u64,
+        length: length as u64,
         answer: answer.number(),
-        reserved: [0u8; 7],
+        reserved: [0; 7],
     }
 }
 
 fn pack_links(sessions: Sessions) -> [FpSession; LINKS]
     ensures { result ≡ spec.packed_links sessions }
 {
-    let nothing = Session::idle();
-    let mut links = [pack_session(nothing); LINKS];
-    let mut i = 0;
-    while i < LINKS {
-        let session = sessions.links[i];
-        links[i] = pack_session(session);
-        i += 1;
-    }
-    links
+    sessions.links.map(pack_session)
 }
 
 fn pack_session(session: Session) -> FpSession
     ensures { result ≡ spec.packed_session session }
 {
-    let stage = session.stage;
-    let since = session.since;
-    let key = session.key;
+    let Session {
+        since,
+        passkey,
+        stage,
+        key,
+    } = session;
     FpSession {
-        since: since,
-        passkey: session.passkey,
-        stage: sessions::number(stage),
-        key: key,
-        reserved: [0u8; 3],
+        since,
+        passkey,
+        stage: stage.number(),
+        key,
+        reserved: [0; 3],
     }
 }
 
@@ -100,48 +95,50 @@ fn pack_keys(keys: AccountKeys) -> FpStored
     requires { account.Valid keys }
     ensures { result ≡ spec.packed_keys keys }
 {
-    let mut bytes = [0u8; STORED_LIST_MAX];
-    let report = keys.write(&mut bytes);
+    let mut bytes = [0; STORED_LIST_MAX];
+    let length = keys.write(&mut bytes).unwrap_or(0);
     FpStored {
-        length: report.length as u64,
-        bytes: bytes,
-        reserved: [0u8; 4],
+        length: length as u64,
+        bytes,
+        reserved: [0; 4],
     }
 }
 
 pub fn flag(on: bool) -> u8
     ensures { result ≡ spec.flag on }
 {
-    if on {
-        return 1;
-    }
-    0
+    u8::from(on)
 }
 
 fn pack_reply(reply: Reply) -> FpReply
     ensures { result ≡ spec.packed_reply reply }
 {
-    let answer = reply.answer;
-    let confirm = reply.confirm;
-    let named = reply.named;
-    let bond = reply.bond;
     FpReply {
-        answer: answer.number(),
+        answer: reply.answer.number(),
         tried: reply.tried,
-        confirm: confirm_number(confirm),
+        confirm: confirm_number(reply.confirm),
         packet: reply.packet,
-        named: named.number(),
-        rotate: named.asks_rotation(),
-        bond: bond,
+        named: reply.named.map_or(0, Named::number),
+        rotate: reply.named.is_some_and(Named::asks_rotation),
+        bond: pack_bond(reply.bond),
     }
 }
 
-fn confirm_number(confirm: Confirm) -> u8
+fn pack_bond(bond: Option<Address>) -> FpBond
+    ensures { result ≡ spec.packed_bond bond }
+{
+    FpBond {
+        wanted: bond.is_some(),
+        address: bond.unwrap_or(Address { bytes: [0; 6] }),
+    }
+}
+
+fn confirm_number(confirm: Option<Confirm>) -> u8
     ensures { result ≡ spec.confirm_number confirm }
 {
     match confirm {
-        Confirm::Unasked => 0,
-        Confirm::Yes => 1,
-        Confirm::No => 2,
+        None => 0,
+        Some(Confirm::Yes) => 1,
+        Some(Confirm::No) => 2,
     }
 }

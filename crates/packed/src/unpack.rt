@@ -1,67 +1,39 @@
 // Any bytes that C hands in, read as a device.
-ghost use Rattle.std.specs.Prelude.{true, false, ◌≡◌};
+ghost use Rattle.std.specs.Prelude.{true, ◌≡◌, IfSome};
+ghost use Rattle.provider.specs.Demands.Validity.{Valid};
 ghost use Rattle.packed.specs.Packed as spec;
-ghost use Rattle.packed.specs.Packed.{is_device, device_of};
-ghost use Rattle.provider.specs.Rules.Control.{off};
 
-use crate::{FpDevice, FpElement, FpSession, FpStored, Unpacked};
-use account_keys::{AccountKeys, ListForm, Reading, STORED_LIST_MAX};
+use crate::{FpDevice, FpElement, FpSession, FpStored};
+use account_keys::{AccountKeys, STORED_LIST_MAX};
 use advertising::Beacon;
-use key_based::Element;
 use names::Name;
 use provider::Device;
 use request_guard::wait::RotationWait;
 use request_guard::{Failures, Guard};
 use sessions::{LINKS, Session, Sessions, Stage};
 
-// The last of the numbers that a link's stage can have.
-const LAST_STAGE: u8 = 5;
-
-pub fn unpack(from: FpDevice) -> Unpacked
-    ensures { result ≡ record { known = is_device from; device = device_of from } }
+// The device that the bytes are; none where they are not served. By `?` the list and the name would be copied once more.
+#[tactic(auto, unfolding(crate::specs::Packed::unpacked))]
+pub fn unpack(from: FpDevice) -> Option<Device>
+    ensures value { result ≡ spec.unpacked from }
+    ensures valid { IfSome result Valid }
 {
-    let stored = from.stored;
-    let list = list_of(stored);
-    let form = list.form;
-    if !is_well_formed(form) {
-        return no_device();
-    }
-    let given = from.name;
-    let text = given.read_again();
-    if !text.good {
-        return no_device();
-    }
+    let Some(keys) = list_of(from.stored) else {
+        return None;
+    };
+    let Some(name) = from.name.read_again() else {
+        return None;
+    };
     if !numbers_known(from) {
-        return no_device();
+        return None;
     }
-    let keys = list.keys;
-    let name = text.name;
-    Unpacked {
-        known: true,
-        device: with_parts(from, keys, name),
-    }
-}
-
-fn no_device() -> Unpacked
-    ensures { result ≡ record { known = false; device = off } }
-{
-    Unpacked {
-        known: false,
-        device: Device::off(),
-    }
+    Some(with_parts(from, keys, name))
 }
 
 fn numbers_known(from: FpDevice) -> bool
     ensures { result ≡ spec.numbers_known from }
 {
-    if !guard_known(from) {
-        return false;
-    }
-    let sessions = from.sessions;
-    if !stages_known(sessions) {
-        return false;
-    }
-    flags_known(from)
+    guard_known(from) && stages_known(from.sessions) && flags_known(from)
 }
 
 // The counts and salts of a guard, and no failure counted while a rotation is awaited.
@@ -69,59 +41,50 @@ fn guard_known(from: FpDevice) -> bool
     ensures { result ≡ spec.guard_known from }
 {
     let guard = guard_of(from);
-    if !guard.is_bounded() {
-        return false;
-    }
-    wait_of(from).is_uncounted(guard)
+    guard.is_bounded() && wait_of(from).is_uncounted(guard)
 }
 
 fn flags_known(from: FpDevice) -> bool
     ensures { result ≡ spec.flags_known from }
 {
-    if 1 < from.pairing {
-        return false;
-    }
-    from.awaited <= 1
+    from.pairing <= 1 && from.awaited <= 1
 }
 
 fn with_parts(from: FpDevice, keys: AccountKeys, name: Name) -> Device
     requires { spec.numbers_known from ≡ true }
     ensures { result ≡ spec.with_parts from keys name }
 {
-    let guard = guard_of(from);
-    let sessions = from.sessions;
-    let identity = from.identity;
-    let ble = from.ble;
-    let salt = from.salt;
-    let filter = from.filter;
-    let clock = from.clock;
+    let FpDevice {
+        ble,
+        salt,
+        filter,
+        ..
+    } = from;
     Device {
-        clock: clock,
-        keys: keys,
-        sessions: links_of(sessions),
-        guard: guard.cleaned(),
+        clock: from.clock,
+        keys,
+        sessions: links_of(from.sessions),
+        guard: guard_of(from).cleaned(),
         wait: wait_of(from),
-        identity: identity,
+        identity: from.identity,
         beacon: Beacon {
-            ble: ble,
-            salt: salt,
-            filter: filter,
+            ble,
+            salt,
+            filter,
             pairing: from.pairing == 1,
         },
-        name: name,
+        name,
     }
 }
 
 fn guard_of(from: FpDevice) -> Guard
     ensures { result ≡ spec.guard_of from }
 {
-    let spent = from.spent;
-    let failed = from.failed;
     Guard {
-        spent: spent,
+        spent: from.spent,
         failures: Failures {
             count: from.failures,
-            last: failed,
+            last: from.failed,
         },
     }
 }
@@ -134,35 +97,24 @@ fn wait_of(from: FpDevice) -> RotationWait
     }
 }
 
-fn list_of(stored: FpStored) -> Reading
+fn list_of(stored: FpStored) -> Option<AccountKeys>
     ensures { result ≡ spec.list_of stored }
 {
-    let n = stored.length as usize;
-    if STORED_LIST_MAX < n {
-        return account_keys::malformed();
-    }
-    let bytes = stored.bytes;
-    account_keys::read(&bytes[..n])
-}
-
-fn is_well_formed(form: ListForm) -> bool
-    ensures { result ≡ spec.is_well_formed form }
-{
-    match form {
-        ListForm::WellFormed => true,
-        ListForm::Malformed => false,
+    let length = stored.length as usize;
+    if length <= STORED_LIST_MAX {
+        account_keys::read(&stored.bytes[..length])
+    } else {
+        None
     }
 }
 
+// In place, since `map` goes by a copy of all links.
 fn links_of(from: [FpSession; LINKS]) -> Sessions
     ensures { result ≡ spec.links_of from }
 {
     let mut sessions = Sessions::all_idle();
-    let mut i = 0;
-    while i < LINKS {
-        let session = from[i];
-        sessions.links[i] = session_of(session);
-        i += 1;
+    for (i, link) in from.iter().enumerate() {
+        sessions.links[i] = session_of(*link);
     }
     sessions
 }
@@ -170,58 +122,36 @@ fn links_of(from: [FpSession; LINKS]) -> Sessions
 fn stages_known(from: [FpSession; LINKS]) -> bool
     ensures { result ≡ spec.stages_known from }
 {
-    let mut i = 0;
-    while i < LINKS {
-        if LAST_STAGE < from[i].stage {
-            return false;
-        }
-        i += 1;
-    }
-    true
+    from.iter()
+        .all(|session| Stage::try_from(session.stage).is_ok())
 }
 
+// An idle link holds nothing, whatever its other fields say.
 fn session_of(from: FpSession) -> Session
     ensures { result ≡ spec.session_of from }
 {
-    let n = from.stage;
-    if n == 1 {
-        return held_in(from, Stage::Asked);
-    }
-    if n == 2 {
-        return held_in(from, Stage::Pairing);
-    }
-    if n == 3 {
-        return held_in(from, Stage::Confirming);
-    }
-    if n == 4 {
-        return held_in(from, Stage::Proved);
-    }
-    if n == 5 {
-        return held_in(from, Stage::Paired);
-    }
-    Session::idle()
-}
-
-fn held_in(from: FpSession, stage: Stage) -> Session
-    ensures { result ≡ spec.held_in from stage }
-{
-    let key = from.key;
-    let since = from.since;
-    Session {
-        stage: stage,
-        key: key,
-        since: since,
-        passkey: from.passkey,
+    let FpSession {
+        since,
+        passkey,
+        stage,
+        key,
+        ..
+    } = from;
+    match Stage::try_from(stage) {
+        Ok(Stage::Idle) | Err(_) => Session::idle(),
+        Ok(stage) => Session {
+            since,
+            passkey,
+            stage,
+            key,
+        },
     }
 }
 
-// What the secure element made of a point.
-pub fn element(from: FpElement) -> Element
+// The secret that the secure element made of a point; None if it rejected the point.
+pub fn element(from: FpElement) -> Option<[u8; 32]>
     ensures { result ≡ spec.element_of from }
 {
-    let secret = from.secret;
-    Element {
-        accepted: from.accepted != 0,
-        secret: secret,
-    }
+    let FpElement { accepted, secret } = from;
+    (accepted != 0).then_some(secret)
 }

@@ -2,7 +2,7 @@
 -- Assumes nothing.
 use mathlib.Core.Bool.{Bool, true, false, not}
 use mathlib.Core.List.{List, [], ◌∷◌}
-use mathlib.Core.Path.{◌≡◌, refl, sym, ap, ◌∙◌}
+use mathlib.Core.Path.{◌≡◌, refl, sym, ap, subst, ◌∙◌}
 use Prim.Native.Nat.{ℕ}
 use native.Mathlib.Omega.{arith}
 use lib.Dec.{eqb, ltb}
@@ -10,7 +10,8 @@ use lib.ListN.{length, get_or}
 use borrow.Author.Tests.{eqb-true, ltb-true, not-false}
 use Rattle.laws.proofs.Choice.{true_is, if_holds, or_false_right}
 use Rattle.laws.specs.Choice.{◌and◌}
-use Rattle.std.specs.Prelude.{if◌then◌else◌}
+use Rattle.std.specs.Prelude.{Option, Some, None, if◌then◌else◌}
+use Rattle.std.specs.Option.{is_some}
 use Rattle.account_keys.specs.Keys.{Sized}
 use Rattle.account_keys.specs.declared.AccountKey.{AccountKey}
 use Rattle.aes128.proofs.Sizes.{length_inv_cipher}
@@ -21,7 +22,7 @@ use Rattle.basics.specs.declared.Answer.TheVariants.{Taken, LinkIdle, WrongStage
 use Rattle.additional_data.proofs.Packet.{opened_valid}
 use Rattle.additional_data.specs.Packet.{opened}
 use Rattle.names.specs.Name as names
-use Rattle.names.specs.declared.NameReading.{NameReading}
+use Rattle.names.specs.declared.Name.{Name}
 use Rattle.pairing.proofs.Laws as laws
 use Rattle.pairing.specs.Pairing.{PairingEvent, PairingStarted, ConfirmationNeeded, PasskeyWrite, PairingEnded, AccountKeyWrite, NameWrite, is_account_key_write, is_name_write, answered, dropped, read_name, name_write, in_stage, refused_capability, begun, confirming, bad_block, passkey_in, compared_passkey, opened_passkey, key_stored, opened_account_key, pairing_failed, pairing_started, confirmation_needed, passkey_write, pairing_ended, account_key_write, session_step, lent, leaves}
 use Rattle.pairing.specs.declared.SessionOutcome.{SessionOutcome}
@@ -53,8 +54,8 @@ pub record Lawful (s : Session) (a : SessionOutcome) : Type 0 where
   pub refusal : is_taken a.answer ≡ false → a ≡ answered a.answer (refused_session a.answer s)
   pub held : is_stage s.stage Idle ≡ false → eqb (answer_number a.answer) 9 ≡ false
   pub session : Canonical s → Canonical a.session
-  pub storable : a.stores ≡ true → Storable a.key
-  pub name : a.renames ≡ true → names.Valid a.name
+  pub storable : (k : AccountKey) → a.key ≡ Some k → Storable k
+  pub name : (n : Name) → a.name ≡ Some n → names.Valid n
 
 -- a session in a stage is no idle one
 pub in_a_stage : (s : Session) → ltb 0 (stage_number s.stage) ≡ true → Canonical s
@@ -73,8 +74,8 @@ module _ {s : Session} where
     refusal = λ e. absurd (true_is (sym e));
     held = λ _. refl;
     session = λ _. in_a_stage u h;
-    storable = λ e. absurd (true_is e);
-    name = λ e. absurd (true_is e);
+    storable = λ k e. (cc);
+    name = λ n e. (cc);
   }
 
   -- K is dropped
@@ -85,8 +86,8 @@ module _ {s : Session} where
     refusal = λ _. rw h;
     held = λ _. k;
     session = λ _ _. refl;
-    storable = λ e. absurd (true_is e);
-    name = λ e. absurd (true_is e);
+    storable = λ k e. (cc);
+    name = λ n e. (cc);
   }
 
   -- the link is idle
@@ -96,8 +97,8 @@ module _ {s : Session} where
     refusal = λ _. refl;
     held = λ e. absurd (true_is (sym e ∙ h));
     session = λ c. c;
-    storable = λ e. absurd (true_is e);
-    name = λ e. absurd (true_is e);
+    storable = λ k e. (cc);
+    name = λ n e. (cc);
   }
 
   lawful-stage : (needed : Stage) (rule : Session → SessionOutcome) → Lawful s (rule s) → Lawful s (in_stage needed rule s)
@@ -133,16 +134,16 @@ compared_lawful t s plain =
       refusal = λ e. absurd (true_is (sym e));
       held = λ _. refl;
       session = λ _. in_a_stage (becomes Proved t s) refl;
-      storable = λ e. absurd (true_is e);
-      name = λ e. absurd (true_is e);
+      storable = λ k e. (cc);
+      name = λ n e. (cc);
     })
     (λ _. record {
       answer = taken;
       refusal = λ e. absurd (true_is (sym e));
       held = λ _. refl;
       session = λ _ _. refl;
-      storable = λ e. absurd (true_is e);
-      name = λ e. absurd (true_is e);
+      storable = λ k e. (cc);
+      name = λ n e. (cc);
     })
 
 passkey_lawful : (t : ℕ) (block : List ℕ) (s : Session) → Lawful s (opened_passkey t block s)
@@ -163,30 +164,29 @@ account_key_lawful block s =
       refusal = λ h. absurd (true_is (sym h));
       held = λ _. refl;
       session = λ _ _. refl;
-      storable = λ _. (length_inv_cipher s.key block, begins 0x04 s.key block e);
-      name = λ e. absurd (true_is e);
+      storable = λ k h. let same : record { bytes = inv_cipher s.key block } ≡ k = (cc) in
+          subst Storable same (length_inv_cipher s.key block, begins 0x04 s.key block e);
+      name = λ n e. (cc);
     })
 
 -- a name that was read, or 15
-name_lawful : (s : Session) (r : NameReading) → names.Valid r.name → Lawful s (read_name s r)
-name_lawful s r v =
-    lawful-if r.good
-    (record {
-      answer = taken;
-      refusal = λ e. absurd (true_is (sym e));
-      held = λ _. refl;
-      session = λ c. c;
-      storable = λ e. absurd (true_is e);
-      name = λ _. v;
-    })
-    (λ _. record {
-      answer = name_refused;
-      refusal = λ _. refl;
-      held = λ _. refl;
-      session = λ c. c;
-      storable = λ e. absurd (true_is e);
-      name = λ e. absurd (true_is e);
-    })
+name_lawful : (s : Session) (r : Option Name) → ((n : Name) → r ≡ Some n → names.Valid n) → Lawful s (read_name s r)
+name_lawful s None v = record {
+  answer = name_refused;
+  refusal = λ _. refl;
+  held = λ _. refl;
+  session = λ c. c;
+  storable = λ k e. (cc);
+  name = λ n e. (cc);
+}
+name_lawful s (Some x) v = record {
+  answer = taken;
+  refusal = λ e. absurd (true_is (sym e));
+  held = λ _. refl;
+  session = λ c. c;
+  storable = λ k e. (cc);
+  name = v;
+}
 
 name_write_lawful : (packet : List ℕ) (s : Session) → Lawful s (name_write packet s)
 unfolding name_write
@@ -197,7 +197,7 @@ name_write_lawful packet s = go (is_stage s.stage Idle) refl
         if is_stage s.stage Paired then dropped WrongStage else read_name s (opened s.key packet))
     go true h = lawful-idle h
     go false h = lawful-if (is_stage s.stage Paired) (lawful-drops WrongStage wrong_stage refl refl)
-        (λ _. name_lawful s (opened s.key packet) (opened_valid s.key packet))
+        (λ _. name_lawful s (opened s.key packet) (λ n e. opened_valid s.key packet e))
 
 pub step_lawful : (e : PairingEvent) (t : ℕ) (s : Session) → Lawful s (session_step e t s)
 unfolding pairing_started confirmation_needed passkey_write pairing_ended account_key_write
@@ -216,15 +216,15 @@ step_lawful (NameWrite packet) t s = name_write_lawful packet s
 -- ---- a key is stored by an account key write alone, and a name taken by a name write, with answer 0
 
 pub record OwnParts (e : PairingEvent) (a : SessionOutcome) : Type 0 where
-  pub key : a.stores ≡ true → (is_account_key_write e and is_taken a.answer) ≡ true
-  pub name : a.renames ≡ true → (is_name_write e and is_taken a.answer) ≡ true
+  pub key : is_some a.key ≡ true → (is_account_key_write e and is_taken a.answer) ≡ true
+  pub name : is_some a.name ≡ true → (is_name_write e and is_taken a.answer) ≡ true
 
 module _ {e : PairingEvent} where
   own-if : (b : Bool) {x y : SessionOutcome} → OwnParts e x → OwnParts e y → OwnParts e (if b then x else y)
   own-if b p q = if_holds (OwnParts e) b p (λ _. q)
 
   -- an outcome that brings neither
-  neither : {a : SessionOutcome} → a.stores ≡ false → a.renames ≡ false → OwnParts e a
+  neither : {a : SessionOutcome} → is_some a.key ≡ false → is_some a.name ≡ false → OwnParts e a
   neither p q = record { key = λ h. absurd (true_is (sym p ∙ h)); name = λ h. absurd (true_is (sym q ∙ h)) }
 
   own-stage : (needed : Stage) (rule : Session → SessionOutcome) (s : Session) → OwnParts e (rule s)
@@ -255,7 +255,11 @@ own_parts (AccountKeyWrite block) t s =
 own_parts (NameWrite packet) t s =
     own-if (is_stage s.stage Idle) (neither refl refl)
     (own-if (is_stage s.stage Paired) (neither refl refl)
-    (own-if (opened s.key packet).good (record { key = λ h. absurd (true_is h); name = λ _. refl }) (neither refl refl)))
+    (read-parts (opened s.key packet)))
+  where
+    read-parts : (r : Option Name) → OwnParts (NameWrite packet) (read_name s r)
+    read-parts None = neither refl refl
+    read-parts (Some n) = record { key = λ h. absurd (true_is h); name = λ _. refl }
 
 -- an account key write that gets 0 stores the key in its block
 pub account_key_taken : (block : List ℕ) (s : Session) → is_taken (account_key_write block s).answer ≡ true

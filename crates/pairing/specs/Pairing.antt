@@ -1,7 +1,7 @@
 -- Document 01: pairing started, confirmation needed, passkey write, pairing ended, account key write; document 02 (i): name write.
 -- Each is a function of the link's session alone.
 -- Assumes nothing.
-use Rattle.std.specs.Prelude.{Bool, true, false, not, List, [], ◌∷◌, ◌++◌, ℕ, eqb, ltb, length, drop, get_or, replicate, if◌then◌else◌}
+use Rattle.std.specs.Prelude.{Bool, true, false, not, List, [], ◌∷◌, ◌++◌, ℕ, eqb, ltb, length, drop, get_or, Option, Some, None, if◌then◌else◌}
 use Rattle.laws.specs.BigEndian.{bytes, number3}
 use Rattle.laws.specs.Choice.{◌or◌}
 use Rattle.account_keys.specs.Keys.{held, kept, member, stored, zero_key}
@@ -12,13 +12,10 @@ use Rattle.aes128.specs.Cipher.{cipher, inv_cipher}
 use Rattle.basics.specs.Answers.{is_taken}
 use Rattle.basics.specs.declared.Answer.{Answer}
 use Rattle.basics.specs.declared.Answer.TheVariants.{Taken, LinkIdle, WrongStage, CapabilityRefused, BadBlock, NameRefused}
-use Rattle.names.specs.Name.{no_name}
 use Rattle.names.specs.declared.Name.{Name}
-use Rattle.names.specs.declared.NameReading.{NameReading}
 use Rattle.pairing.specs.declared.SessionOutcome.{SessionOutcome}
-use Rattle.pairing.specs.declared.Opened.{Opened}
 use Rattle.pairing.specs.declared.Confirm.{Confirm}
-use Rattle.pairing.specs.declared.Confirm.TheVariants.{Unasked, Yes, No}
+use Rattle.pairing.specs.declared.Confirm.TheVariants.{Yes, No}
 use Rattle.sessions.specs.Sessions.{idle, is_stage, becomes}
 use Rattle.sessions.specs.declared.Session.{Session}
 use Rattle.sessions.specs.declared.Stage.{Stage}
@@ -56,12 +53,10 @@ abbrev pub answered : Answer → Session → SessionOutcome
 answered a s =
     record {
       answer = a;
-      confirm = Unasked;
+      confirm = None;
       session = s;
-      stores = false;
-      key = zero_key;
-      renames = false;
-      name = no_name;
+      key = None;
+      name = None;
     }
 
 -- "taken", with a word on the passkey
@@ -69,12 +64,10 @@ abbrev pub confirmed : Confirm → Session → SessionOutcome
 confirmed c s =
     record {
       answer = Taken;
-      confirm = c;
+      confirm = Some c;
       session = s;
-      stores = false;
-      key = zero_key;
-      renames = false;
-      name = no_name;
+      key = None;
+      name = None;
     }
 
 -- "its K dropped"
@@ -113,13 +106,9 @@ confirmation_needed t passkey = in_stage Pairing (λ s. answered Taken (confirmi
 abbrev pub bad_block : ℕ → List ℕ → List ℕ → Bool
 bad_block first key block = not (eqb (length block) 16) or not (eqb (get_or (inv_cipher key block) 0 0) first)
 
--- what decryption hands over of a block that is as wanted, and of a bad one
-abbrev pub not_opened : Opened
-not_opened = record { good = false; plain = replicate 16 0 }
-
-abbrev pub opened_block : ℕ → List ℕ → List ℕ → Opened
-opened_block first key block =
-    if bad_block first key block then not_opened else record { good = true; plain = inv_cipher key block }
+-- what decryption hands over of a block that is as wanted, and none of a bad one
+abbrev pub opened_block : ℕ → List ℕ → List ℕ → Option (List ℕ)
+opened_block first key block = if bad_block first key block then None else Some (inv_cipher key block)
 
 -- "bytes 1 to 3 are the passkey, big-endian"
 abbrev pub passkey_in : List ℕ → ℕ
@@ -160,12 +149,10 @@ abbrev pub key_stored : List ℕ → SessionOutcome
 key_stored plain =
     record {
       answer = Taken;
-      confirm = Unasked;
+      confirm = None;
       session = idle;
-      stores = true;
-      key = record { bytes = plain };
-      renames = false;
-      name = no_name;
+      key = Some (record { bytes = plain });
+      name = None;
     }
 
 -- "In paired, decrypt 16 bytes. Byte 0 must be 0x04 .. K is dropped whatever the answer from 0 or 9 to 12."
@@ -181,17 +168,16 @@ abbrev pub name_taken : Session → Name → SessionOutcome
 name_taken s name =
     record {
       answer = Taken;
-      confirm = Unasked;
+      confirm = None;
       session = s;
-      stores = false;
-      key = zero_key;
-      renames = true;
-      name = name;
+      key = None;
+      name = Some name;
     }
 
 -- "a wrong tag or bad UTF-8 gets a new answer 15, old name kept. 0 and 15 keep K, stage and timer."
-abbrev pub read_name : Session → NameReading → SessionOutcome
-read_name s r = if r.good then name_taken s r.name else answered NameRefused s
+abbrev pub read_name : Session → Option Name → SessionOutcome
+read_name s None = answered NameRefused s
+read_name s (Some name) = name_taken s name
 
 -- "A name write is taken from asked to proved, else 9 (idle) or 10 (paired)."
 unfoldable pub name_write : List ℕ → Session → SessionOutcome
@@ -237,13 +223,25 @@ written_key (AccountKeyWrite block) s = record { bytes = inv_cipher s.key block 
 written_key (NameWrite packet) s = zero_key
 
 -- the account keys after the event
+abbrev pub with_stored : Option AccountKey → AccountKeys → AccountKeys
+with_stored None ks = ks
+with_stored (Some k) ks = kept (stored (held ks) k)
+
 abbrev pub stored_in : SessionOutcome → AccountKeys → AccountKeys
-stored_in a ks = if a.stores then kept (stored (held ks) a.key) else ks
+stored_in a ks = with_stored a.key ks
 
 -- whether the event stores a key that is not held: one that is held only moves
+abbrev pub is_new : Option AccountKey → AccountKeys → Bool
+is_new None ks = false
+is_new (Some k) ks = not (member (held ks) k)
+
 abbrev pub adds_to : SessionOutcome → AccountKeys → Bool
-adds_to a ks = if a.stores then not (member (held ks) a.key) else false
+adds_to a ks = is_new a.key ks
 
 -- the name after the event
+abbrev pub with_taken : Option Name → Name → Name
+with_taken None n = n
+with_taken (Some taken) n = taken
+
 abbrev pub renamed_in : SessionOutcome → Name → Name
-renamed_in a n = if a.renames then a.name else n
+renamed_in a n = with_taken a.name n

@@ -12,31 +12,21 @@ use basics::{Answer, Moment};
 use names::Name;
 use sessions::{Session, Stage};
 
-// Whether the radio is to confirm the passkey.
+// What the radio is to reply on a passkey that was compared.
 #[derive(Clone, Copy)]
 pub enum Confirm {
-    Unasked,
     Yes,
     No,
 }
 
-// What an event makes of a session; `key` is zero where it stores none, and `name` is empty where it renames nothing.
+// What an event makes of a session: the reply on a passkey, the next session, and an account key to store or a name to take.
 #[derive(Clone, Copy)]
 pub struct SessionOutcome {
     pub answer: Answer,
-    pub confirm: Confirm,
+    pub confirm: Option<Confirm>,
     pub session: Session,
-    pub stores: bool,
-    pub key: AccountKey,
-    pub renames: bool,
-    pub name: Name,
-}
-
-// A passkey or account block after decryption; `plain` is zero where it is not as wanted.
-#[derive(Clone, Copy)]
-struct Opened {
-    good: bool,
-    plain: [u8; 16],
+    pub key: Option<AccountKey>,
+    pub name: Option<Name>,
 }
 
 impl SessionOutcome {
@@ -45,11 +35,7 @@ impl SessionOutcome {
         requires { Kept keys }
         ensures { result ≡ rule.stored_in self keys }
     {
-        if !self.stores {
-            return keys;
-        }
-        let key = self.key;
-        keys.store(key)
+        self.key.map_or(keys, |key| keys.store(key))
     }
 
     // Whether the event stores a key that is not held: one that is held only moves.
@@ -57,51 +43,41 @@ impl SessionOutcome {
         requires { Kept keys }
         ensures { result ≡ rule.adds_to self keys }
     {
-        if !self.stores {
-            return false;
-        }
-        let key = self.key;
-        !keys.holds(key)
+        self.key.is_some_and(|key| !keys.holds(key))
     }
 
     // The device's name after the event.
     pub fn renamed_in(self, name: Name) -> Name
         ensures { result ≡ rule.renamed_in self name }
     {
-        if !self.renames {
-            return name;
-        }
-        let taken = self.name;
-        taken
+        self.name.unwrap_or(name)
     }
 }
 
+#[tactic(auto, unfolding(crate::specs::Pairing::pairing_started))]
 pub fn pairing_started(session: Session, clock: Moment, capability: u8) -> SessionOutcome
     ensures { result ≡ session_step (PairingStarted capability) clock.0 session }
 {
-    let outcome = in_stage(session, Stage::Asked);
-    let answer = outcome.answer;
-    if !answer.is_taken() {
-        return outcome;
-    }
-    if is_refused(capability) {
-        return dropped(Answer::CapabilityRefused);
-    }
-    answered(Answer::Taken, session.moved(Stage::Pairing, clock))
+    in_stage(
+        session,
+        Stage::Asked,
+        |session| begun(session, clock, capability),
+    )
 }
 
+#[tactic(auto, unfolding(crate::specs::Pairing::confirmation_needed))]
 pub fn confirmation_needed(session: Session, clock: Moment, passkey: u32) -> SessionOutcome
     ensures { result ≡ session_step (ConfirmationNeeded passkey) clock.0 session }
 {
-    let outcome = in_stage(session, Stage::Pairing);
-    let answer = outcome.answer;
-    if !answer.is_taken() {
-        return outcome;
-    }
-    answered(Answer::Taken, confirming(session, clock, passkey))
+    in_stage(
+        session,
+        Stage::Pairing,
+        |session| answered(Answer::Taken, confirming(session, clock, passkey)),
+    )
 }
 
 // The response stands in front of `out` if the passkeys were compared.
+#[tactic(auto, unfolding(crate::specs::Pairing::passkey_output))]
 pub fn passkey_write(
     session: Session,
     clock: Moment,
@@ -114,47 +90,43 @@ pub fn passkey_write(
     ensures out_after { out.new ∷ [] ≡ leaves (PasskeyWrite block.now salt out.old) clock.0 session }
 {
     let outcome = passkey_checked(session, clock, block);
-    let answer = outcome.answer;
-    if !answer.is_taken() {
-        return outcome;
+    if outcome.answer.is_taken() {
+        out[..16].copy_from_slice(&passkey_response(session, salt));
     }
-    basics::put(out, 0, passkey_response(session, salt));
     outcome
 }
 
+#[tactic(auto, unfolding(crate::specs::Pairing::pairing_ended))]
 pub fn pairing_ended(session: Session, clock: Moment, success: bool) -> SessionOutcome
     ensures { result ≡ session_step (PairingEnded success) clock.0 session }
 {
     if !success {
         return pairing_failed(session);
     }
-    let outcome = in_stage(session, Stage::Proved);
-    let answer = outcome.answer;
-    if !answer.is_taken() {
-        return outcome;
-    }
-    answered(Answer::Taken, session.moved(Stage::Paired, clock))
+    in_stage(
+        session,
+        Stage::Proved,
+        |session| answered(Answer::Taken, session.moved(Stage::Paired, clock)),
+    )
 }
 
 // K is dropped, whatever becomes of the block.
+#[tactic(auto, unfolding(crate::specs::Pairing::account_key_write))]
 pub fn account_key_write(session: Session, block: &[u8]) -> SessionOutcome
     ensures { result ≡ session_step (AccountKeyWrite block.now) 0 session }
 {
-    let outcome = in_stage(session, Stage::Paired);
-    let answer = outcome.answer;
-    if !answer.is_taken() {
-        return outcome;
-    }
-    let key = session.key;
-    let opened = opened_block(key, block, 0x04);
-    if !opened.good {
-        return dropped(Answer::BadBlock);
-    }
-    let plain = opened.plain;
-    key_stored(plain)
+    in_stage(
+        session,
+        Stage::Paired,
+        |session| match opened_block(session.key, block, 0x04) {
+            Some(plain) => key_stored(plain),
+            None => dropped(Answer::BadBlock),
+        },
+    )
 }
 
 // From asked to proved K, stage and timer stay as they are, whatever the packet holds.
+#[tactic(auto, unfolding(crate::specs::Pairing::name_write))]
 pub fn name_write(session: Session, packet: &[u8]) -> SessionOutcome
     ensures { result ≡ session_step (NameWrite packet.now) 0 session }
 {
@@ -164,26 +136,39 @@ pub fn name_write(session: Session, packet: &[u8]) -> SessionOutcome
     if session.is_in(Stage::Paired) {
         return dropped(Answer::WrongStage);
     }
-    let key = session.key;
-    let opened = additional_data::open(key, packet);
-    if !opened.good {
-        return answered(Answer::NameRefused, session);
+    match additional_data::open(session.key, packet) {
+        Some(name) => name_taken(session, name),
+        None => answered(Answer::NameRefused, session),
     }
-    let name = opened.name;
-    name_taken(session, name)
 }
 
-// The check of the stage: the answer is `Taken`, and the session as it was, where it is in the stage that the event needs.
-fn in_stage(session: Session, needed: Stage) -> SessionOutcome
-    ensures { result ≡ rule.in_stage needed (rule.answered Answer.Taken) session }
+// What an event makes of a session in the stage that it needs; an idle one, or one in another stage, is refused.
+#[tactic(auto, unfolding(crate::specs::Pairing::in_stage))]
+fn in_stage<F: FnOnce(Session) -> SessionOutcome>(
+    session: Session,
+    needed: Stage,
+    event: F,
+) -> SessionOutcome
+    requires { F.IsAlwaysCallable event }
+    ensures { (meant : Session → SessionOutcome) → ((o : SessionOutcome) → F.post event session o → o ≡ meant session) → result ≡ rule.in_stage needed meant session }
 {
     if session.is_in(Stage::Idle) {
-        return answered(Answer::LinkIdle, session);
+        answered(Answer::LinkIdle, session)
+    } else if session.is_in(needed) {
+        event(session)
+    } else {
+        dropped(Answer::WrongStage)
     }
-    if !session.is_in(needed) {
-        return dropped(Answer::WrongStage);
+}
+
+fn begun(session: Session, clock: Moment, capability: u8) -> SessionOutcome
+    ensures { result ≡ rule.begun clock.0 capability session }
+{
+    if is_refused(capability) {
+        dropped(Answer::CapabilityRefused)
+    } else {
+        answered(Answer::Taken, session.moved(Stage::Pairing, clock))
     }
-    answered(Answer::Taken, session)
 }
 
 // A failed pairing ends whatever stage the link was in.
@@ -196,70 +181,46 @@ fn pairing_failed(session: Session) -> SessionOutcome
     dropped(Answer::Taken)
 }
 
+#[tactic(auto, unfolding(crate::specs::Pairing::passkey_write))]
 fn passkey_checked(session: Session, clock: Moment, block: &[u8]) -> SessionOutcome
     ensures { result ≡ rule.passkey_write clock.0 block.now session }
 {
-    let outcome = in_stage(session, Stage::Confirming);
-    let answer = outcome.answer;
-    if !answer.is_taken() {
-        return outcome;
-    }
-    let key = session.key;
-    let opened = opened_block(key, block, 0x02);
-    if !opened.good {
-        return dropped(Answer::BadBlock);
-    }
-    let plain = opened.plain;
-    compared(session, clock, plain)
+    in_stage(
+        session,
+        Stage::Confirming,
+        |session| match opened_block(session.key, block, 0x02) {
+            Some(plain) => compared(session, clock, plain),
+            None => dropped(Answer::BadBlock),
+        },
+    )
 }
 
 // The block as the key decrypts it, if it has 16 bytes and the first one is as wanted.
-fn opened_block(key: [u8; 16], block: &[u8], first: u8) -> Opened
+fn opened_block(key: [u8; 16], block: &[u8], first: u8) -> Option<[u8; 16]>
     ensures { result ≡ rule.opened_block first key block.now }
 {
-    if block.len() != 16 {
-        return not_opened();
-    }
-    let plain = aes128::decrypt(key, basics::sixteen(block, 0));
-    if plain[0] != first {
-        return not_opened();
-    }
-    Opened {
-        good: true,
-        plain: plain,
-    }
-}
-
-fn not_opened() -> Opened
-    ensures { result ≡ rule.not_opened }
-{
-    Opened {
-        good: false,
-        plain: [0u8; 16],
-    }
+    let plain = aes128::decrypt(key, block.try_into().ok()?);
+    (plain[0] == first).then_some(plain)
 }
 
 // Yes and the stage proved, or no and K dropped.
+#[tactic(auto, unfolding(crate::specs::Pairing::compared_passkey))]
 fn compared(session: Session, clock: Moment, plain: [u8; 16]) -> SessionOutcome
     ensures { result ≡ rule.compared_passkey clock.0 session plain }
 {
     if passkey_in(plain) == session.passkey {
-        return confirmed(Confirm::Yes, session.moved(Stage::Proved, clock));
+        confirmed(Confirm::Yes, session.moved(Stage::Proved, clock))
+    } else {
+        confirmed(Confirm::No, Session::idle())
     }
-    confirmed(Confirm::No, Session::idle())
 }
 
 fn confirmed(confirm: Confirm, session: Session) -> SessionOutcome
     ensures { result ≡ rule.confirmed confirm session }
 {
     SessionOutcome {
-        answer: Answer::Taken,
-        confirm: confirm,
-        session: session,
-        stores: false,
-        key: AccountKey { bytes: [0u8; 16] },
-        renames: false,
-        name: Name::none(),
+        confirm: Some(confirm),
+        ..answered(Answer::Taken, session)
     }
 }
 
@@ -267,13 +228,8 @@ fn key_stored(plain: [u8; 16]) -> SessionOutcome
     ensures { result ≡ rule.key_stored plain }
 {
     SessionOutcome {
-        answer: Answer::Taken,
-        confirm: Confirm::Unasked,
-        session: Session::idle(),
-        stores: true,
-        key: AccountKey { bytes: plain },
-        renames: false,
-        name: Name::none(),
+        key: Some(AccountKey { bytes: plain }),
+        ..dropped(Answer::Taken)
     }
 }
 
@@ -281,27 +237,21 @@ fn name_taken(session: Session, name: Name) -> SessionOutcome
     ensures { result ≡ rule.name_taken session name }
 {
     SessionOutcome {
-        answer: Answer::Taken,
-        confirm: Confirm::Unasked,
-        session: session,
-        stores: false,
-        key: AccountKey { bytes: [0u8; 16] },
-        renames: true,
-        name: name,
+        name: Some(name),
+        ..answered(Answer::Taken, session)
     }
 }
 
+// An answer that confirms, stores and renames nothing.
 fn answered(answer: Answer, session: Session) -> SessionOutcome
     ensures { result ≡ rule.answered answer session }
 {
     SessionOutcome {
-        answer: answer,
-        confirm: Confirm::Unasked,
-        session: session,
-        stores: false,
-        key: AccountKey { bytes: [0u8; 16] },
-        renames: false,
-        name: Name::none(),
+        answer,
+        confirm: None,
+        session,
+        key: None,
+        name: None,
     }
 }
 
@@ -320,12 +270,9 @@ fn is_refused(capability: u8) -> bool
 fn confirming(session: Session, clock: Moment, passkey: u32) -> Session
     ensures { result ≡ rule.confirming clock.0 passkey session }
 {
-    let key = session.key;
     Session {
-        stage: Stage::Confirming,
-        key: key,
-        since: clock,
-        passkey: passkey,
+        passkey,
+        ..session.moved(Stage::Confirming, clock)
     }
 }
 
@@ -333,37 +280,15 @@ fn confirming(session: Session, clock: Moment, passkey: u32) -> Session
 fn passkey_response(session: Session, salt: [u8; 12]) -> [u8; 16]
     ensures { result ≡ rule.passkey_response session salt }
 {
-    let p = session.passkey;
-    let key = session.key;
-    let block = [
-        0x03,
-        ((p >> 16) % 256) as u8,
-        ((p >> 8) % 256) as u8,
-        (p % 256) as u8,
-        salt[0],
-        salt[1],
-        salt[2],
-        salt[3],
-        salt[4],
-        salt[5],
-        salt[6],
-        salt[7],
-        salt[8],
-        salt[9],
-        salt[10],
-        salt[11],
-    ];
-    aes128::encrypt(key, block)
+    let mut block = [0u8; 16];
+    block[..4].copy_from_slice(&session.passkey.to_be_bytes());
+    block[0] = 0x03;
+    block[4..].copy_from_slice(&salt);
+    aes128::encrypt(session.key, block)
 }
 
 fn passkey_in(plain: [u8; 16]) -> u32
     ensures { result ≡ rule.passkey_in plain }
 {
-    wide(plain[1]) * 0x10000 + wide(plain[2]) * 0x100 + wide(plain[3])
-}
-
-fn wide(x: u8) -> u32
-    ensures { (result ≡ x) × (result < 256) }
-{
-    x as u32
+    u32::from_be_bytes([0, plain[1], plain[2], plain[3]])
 }

@@ -3,20 +3,22 @@
 
 mod links;
 
-ghost use Rattle.std.specs.Prelude.{◌≡◌, []};
+ghost use Rattle.std.specs.Prelude.{◌≡◌, ◌<◌, [], Ok, OnOk, IfOk};
 ghost use Rattle.account_keys.specs.Keys.{Kept, held};
 ghost use Rattle.account_keys.specs.StoredList.{writing};
 ghost use Rattle.basics.specs.Output.{report_of, placed};
+ghost use Rattle.basics.specs.declared.Answer.TheVariants.{Taken};
 ghost use Rattle.provider.specs.Demands.Validity.{Valid};
 ghost use Rattle.provider.specs.Rules.Control as control;
 ghost use Rattle.provider.specs.Rules.Control.{advertised};
-ghost use Rattle.provider.specs.Rules.Device.{given, takes, clock_step, drop_all, in_time, on_known_link, checked_of};
+ghost use Rattle.provider.specs.Rules.Device.{given, reply_of, clock_step, drop_all, in_time, on_known_link, Continues};
 ghost use Rattle.provider.specs.Rules.Event.{step, Overflow, PowerOn, OnDevice, PairingMode, AddressRotated, FactoryReset};
+ghost use Rattle.provider.specs.declared.Device.{Device};
+ghost use Rattle.sessions.specs.Sessions.{link_count};
 
-use account_keys::{AccountKeys, ListForm};
+use account_keys::AccountKeys;
 use advertising::{Beacon, Prompt};
-use basics::{Address, Answer, Link, Moment, Report};
-use key_based::Bond;
+use basics::{Address, Answer, Link, Moment};
 use key_based::named::Named;
 use names::Name;
 use pairing::Confirm;
@@ -31,9 +33,11 @@ pub struct Reply {
     // the number of keys tried
     pub tried: u8,
     // the address that an accepted request named
-    pub named: Named,
-    pub bond: Bond,
-    pub confirm: Confirm,
+    pub named: Option<Named>,
+    // the address that a seeker asked to be bonded with
+    pub bond: Option<Address>,
+    // the word on a passkey that was compared
+    pub confirm: Option<Confirm>,
     // the length of the packet with the name; 0 where none is sent
     pub packet: u8,
 }
@@ -74,13 +78,6 @@ pub struct Outcome {
     pub reply: Reply,
 }
 
-// Whether an event passed the checks before it; if not, `outcome` is its own, and else it holds the device after the clock step.
-#[derive(Clone, Copy)]
-struct Checked {
-    passed: bool,
-    outcome: Outcome,
-}
-
 impl Device {
     // The value before any device was made.
     pub fn off() -> Device
@@ -102,109 +99,91 @@ impl Device {
     }
 
     // Power-on from the stored list and the name; if one of them is bad, the earlier device stays as it was.
+    #[tactic(auto, unfolding(crate::specs::Rules::Control::power_on))]
     pub fn power_on(mut self, stored: &[u8], name: &[u8], start: Start) -> Outcome
         ensures { result ≡ (step self (PowerOn stored.now name.now start)).gives }
     {
-        let list = account_keys::read(stored);
-        let form = list.form;
-        match form {
-            ListForm::WellFormed => {
-                let keys = list.keys;
-                self.by_name(keys, name, start)
-            }
-            ListForm::Malformed => self.answers(Answer::ListMalformed),
-        }
-    }
-
-    // Power-on with these keys, if the name is one.
-    fn by_name(self, keys: AccountKeys, name: &[u8], start: Start) -> Outcome
-        requires { Kept keys }
-        ensures { result ≡ (control.by_name self keys name.now start).gives }
-    {
-        let reading = names::read(name);
-        if !reading.good {
+        let Some(keys) = account_keys::read(stored) else {
             return self.answers(Answer::ListMalformed);
-        }
-        let text = reading.name;
-        started(keys, text, start).answers(Answer::Taken)
+        };
+        let Some(name) = names::read(name) else {
+            return self.answers(Answer::ListMalformed);
+        };
+        started(keys, name, start).answers(Answer::Taken)
     }
 
     // Events were lost, so no link's key can be trusted any more.
     pub fn overflow(mut self) -> Outcome
         ensures { result ≡ (step self Overflow).gives }
     {
-        self = self.drop_all();
-        self.answers(Answer::Taken)
+        self.drop_all().answers(Answer::Taken)
     }
 
     pub fn pairing_mode(mut self, on: bool, clock: Moment) -> Outcome
         requires { Valid self }
         ensures { result ≡ (step self (OnDevice clock.0 (PairingMode on))).gives }
     {
-        let checked = self.in_time(clock);
-        if !checked.passed {
-            return checked.outcome;
-        }
-        self = checked.outcome.next;
-        self.beacon.pairing = on;
-        self.answers(Answer::Taken)
+        self.on_device(clock, |mut device| {
+            device.beacon.pairing = on;
+            device
+        })
     }
 
     pub fn address_rotated(mut self, ble: Address, salt: [u8; 2], clock: Moment) -> Outcome
         requires { Valid self }
         ensures { result ≡ (step self (OnDevice clock.0 (AddressRotated ble salt))).gives }
     {
-        let checked = self.in_time(clock);
-        if !checked.passed {
-            return checked.outcome;
-        }
-        self = checked.outcome.next;
-        let beacon = self.beacon;
-        let keys = self.keys;
-        self.beacon = beacon.rotated(ble, salt, keys);
-        self.wait = RotationWait::none();
-        self.answers(Answer::Taken)
+        self.on_device(clock, |mut device| {
+            device.beacon = device.beacon.rotated(ble, salt, device.keys);
+            device.wait = RotationWait::none();
+            device
+        })
     }
 
     pub fn factory_reset(mut self, clock: Moment) -> Outcome
         requires { Valid self }
         ensures { result ≡ (step self (OnDevice clock.0 FactoryReset)).gives }
     {
-        let checked = self.in_time(clock);
-        if !checked.passed {
-            return checked.outcome;
-        }
-        self = checked.outcome.next;
-        let keys = AccountKeys::none();
-        let beacon = self.beacon;
-        self.sessions = Sessions::all_idle();
-        self.guard = Guard::new();
-        self.wait = RotationWait::none();
-        self.keys = keys;
-        self.beacon = beacon.with_keys(keys);
-        self.name = Name::none();
-        self.answers(Answer::Taken)
+        self.on_device(clock, |mut device| {
+            device.sessions = Sessions::all_idle();
+            device.guard = Guard::new();
+            device.wait = RotationWait::none();
+            device.keys = AccountKeys::none();
+            device.beacon = device.beacon.with_keys(device.keys);
+            device.name = Name::none();
+            device
+        })
     }
 
     // The advertising payload. Asking changes nothing and needs no clock.
-    pub fn advertisement(self, prompt: Prompt, out: &mut [u8]) -> Report
+    pub fn advertisement(self, prompt: Prompt, out: &mut [u8]) -> Result<usize, Answer>
         requires { Valid self }
         ensures value { result ≡ report_of (advertised self prompt) out.old }
         ensures out_after { out.new ≡ placed (advertised self prompt) out.old }
     {
-        let model = self.identity.model;
-        let beacon = self.beacon;
-        beacon.payload(model, self.keys.count, prompt, out)
+        self.beacon
+            .payload(self.identity.model, self.keys.count, prompt, out)
     }
 
     // The stored list, for memory that lasts. Asking changes nothing and needs no clock.
-    pub fn stored_list(self, out: &mut [u8]) -> Report
+    pub fn stored_list(self, out: &mut [u8]) -> Result<usize, Answer>
         requires { Valid self }
         ensures value { result ≡ report_of (writing (held self.keys)) out.old }
         ensures out_after { out.new ≡ placed (writing (held self.keys)) out.old }
     {
-        let keys = self.keys;
-        keys.write(out)
+        self.keys.write(out)
+    }
+
+    // An event of the whole device: answer 4, or `change` after the clock step.
+    fn on_device<F: FnOnce(Device) -> Device>(self, clock: Moment, change: F) -> Outcome
+        requires valid { Valid self }
+        requires callable { (device : Device) → Valid device → F.pre change device }
+        ensures { Continues (in_time self clock.0) (λ device next. (changed : Device) × F.post change device changed × (next ≡ given changed Taken)) result }
+    {
+        match self.in_time(clock) {
+            Ok(device) => change(device).answers(Answer::Taken),
+            Err(refused) => refused,
+        }
     }
 
     // An answer that hands out nothing.
@@ -213,61 +192,53 @@ impl Device {
     {
         Outcome {
             next: self,
-            reply: Reply {
-                answer: answer,
-                tried: 0,
-                named: Named::Neither,
-                bond: key_based::no_bond(),
-                confirm: Confirm::Unasked,
-                packet: 0,
-            },
+            reply: Reply::of(answer),
         }
     }
 
-    // Checks 1, 2, 3, 13 and 4 of an event on a link, and the clock step; `early` is the answer of 2, 3 and 13.
-    fn on_known_link(self, link: Link, clock: Moment, early: Answer) -> Checked
+    // Checks 1, 2, 3, 13 and 4 of an event on a link, and the clock step; `early` is what 2, 3 and 13 came to.
+    #[tactic(auto, unfolding(crate::specs::Rules::Device::on_known_link))]
+    fn on_known_link(
+        self,
+        link: Link,
+        clock: Moment,
+        early: Result<(), Answer>,
+    ) -> Result<Device, Outcome>
         requires { Valid self }
-        ensures { result ≡ checked_of (on_known_link self link.0 clock.0 early [] takes).gives }
+        ensures value { result ≡ on_known_link self link.0 clock.0 early }
+        ensures passed { OnOk result (early ≡ Ok tt) }
+        ensures known { OnOk result (link.0 < link_count) }
+        ensures valid { IfOk result Valid }
     {
         if 7 < link.0 {
-            return self.checked(Answer::UnknownLink);
+            return Err(self.answers(Answer::UnknownLink));
         }
-        if !early.is_taken() {
-            return self.checked(early);
-        }
+        early.map_err(|refusal| self.answers(refusal))?;
         self.in_time(clock)
     }
 
     // Answer 4, or the clock step: a clock below the stored one says that events are out of order.
-    fn in_time(self, clock: Moment) -> Checked
+    #[tactic(auto, unfolding(crate::specs::Rules::Device::in_time))]
+    fn in_time(self, clock: Moment) -> Result<Device, Outcome>
         requires { Valid self }
-        ensures { result ≡ checked_of (in_time self clock.0 [] takes).gives }
+        ensures value { result ≡ in_time self clock.0 }
+        ensures valid { IfOk result Valid }
     {
-        let last = self.clock;
-        if clock.0 < last.0 {
-            return self.drop_all().checked(Answer::ClockWentBack);
+        if clock.0 < self.clock.0 {
+            return Err(self.drop_all().answers(Answer::ClockWentBack));
         }
-        self.clock_step(clock).checked(Answer::Taken)
+        Ok(self.clock_step(clock))
     }
 
-    fn checked(self, answer: Answer) -> Checked
-        ensures { result ≡ checked_of (given self answer) }
-    {
-        Checked {
-            passed: answer.is_taken(),
-            outcome: self.answers(answer),
-        }
-    }
-
+    #[tactic(auto, unfolding(crate::specs::Rules::Device::clock_step))]
     fn clock_step(mut self, clock: Moment) -> Device
         requires { Valid self }
-        ensures { result ≡ clock_step clock.0 self }
+        ensures value { result ≡ clock_step clock.0 self }
+        ensures valid { Valid result }
     {
-        let sessions = self.sessions;
-        let guard = self.guard;
         self.clock = clock;
-        self.sessions = sessions.expire(clock);
-        self.guard = guard.at_clock(clock);
+        self.sessions = self.sessions.expire(clock);
+        self.guard = self.guard.at_clock(clock);
         self
     }
 
@@ -279,21 +250,34 @@ impl Device {
     }
 }
 
+impl Reply {
+    // An answer that hands out nothing.
+    fn of(answer: Answer) -> Reply
+        ensures { result ≡ reply_of answer }
+    {
+        Reply {
+            answer,
+            tried: 0,
+            named: None,
+            bond: None,
+            confirm: None,
+            packet: 0,
+        }
+    }
+}
+
 fn started(keys: AccountKeys, name: Name, start: Start) -> Device
     requires { Kept keys }
     ensures { result ≡ control.started keys name start }
 {
-    let identity = start.identity;
-    let ble = start.ble;
-    let salt = start.salt;
     Device {
         clock: Moment(0),
-        keys: keys,
+        keys,
         sessions: Sessions::all_idle(),
         guard: Guard::new(),
         wait: RotationWait::none(),
-        identity: identity,
-        beacon: Beacon::new(ble, salt, keys),
-        name: name,
+        identity: start.identity,
+        beacon: Beacon::new(start.ble, start.salt, keys),
+        name,
     }
 }

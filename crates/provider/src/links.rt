@@ -5,15 +5,16 @@ ghost use Rattle.account_keys.specs.Keys.{Kept};
 ghost use Rattle.names.specs.Name as names;
 ghost use Rattle.pairing.specs.Pairing.{PairingStarted, ConfirmationNeeded, PasskeyWrite, PairingEnded, AccountKeyWrite, NameWrite};
 ghost use Rattle.provider.specs.Demands.Validity.{Valid};
+ghost use Rattle.provider.specs.Rules.Device.{on_known_link, Continues};
 ghost use Rattle.provider.specs.Rules.Event as rule;
 ghost use Rattle.provider.specs.Rules.Event.{step, OnLink, LinkUp, LinkDown, KeyBasedWrite, OnSession};
-ghost use Rattle.sessions.specs.Sessions.{link_count};
+ghost use Rattle.sessions.specs.Sessions.{link_count, session_at};
 
 use crate::{Device, Outcome, Reply};
 use basics::{Answer, Link, Moment};
 use key_based::named::Named;
-use key_based::{Context, Decision, Element};
-use pairing::{Confirm, SessionOutcome};
+use key_based::{Context, Decision};
+use pairing::SessionOutcome;
 use sessions::Session;
 
 impl Device {
@@ -21,14 +22,13 @@ impl Device {
         requires { Valid self }
         ensures { result ≡ (step self (OnLink link.0 clock.0 LinkUp)).gives }
     {
-        let checked = self.on_known_link(link, clock, Answer::Taken);
-        if !checked.passed {
-            return checked.outcome;
+        match self.on_known_link(link, clock, Ok(())) {
+            Ok(mut device) => {
+                device.sessions = device.sessions.with(link, Session::idle());
+                device.answers(Answer::Taken)
+            }
+            Err(refused) => refused,
         }
-        self = checked.outcome.next;
-        let sessions = self.sessions;
-        self.sessions = sessions.with(link, Session::idle());
-        self.answers(Answer::Taken)
     }
 
     // A link that goes down drops its K as one that comes up does.
@@ -43,26 +43,18 @@ impl Device {
         requires { Valid self }
         ensures { result ≡ (step self (OnLink link.0 clock.0 (OnSession (PairingStarted capability)))).gives }
     {
-        let checked = self.on_known_link(link, clock, Answer::Taken);
-        if !checked.passed {
-            return checked.outcome;
-        }
-        self = checked.outcome.next;
-        let session = self.sessions.at(link);
-        self.applied(link, pairing::pairing_started(session, clock, capability))
+        self.on_session(link, clock, Ok(()), |session| {
+            pairing::pairing_started(session, clock, capability)
+        })
     }
 
     pub fn confirmation_needed(mut self, link: Link, clock: Moment, passkey: u32) -> Outcome
         requires { Valid self }
         ensures { result ≡ (step self (OnLink link.0 clock.0 (OnSession (ConfirmationNeeded passkey)))).gives }
     {
-        let checked = self.on_known_link(link, clock, passkey_range(passkey));
-        if !checked.passed {
-            return checked.outcome;
-        }
-        self = checked.outcome.next;
-        let session = self.sessions.at(link);
-        self.applied(link, pairing::confirmation_needed(session, clock, passkey))
+        self.on_session(link, clock, passkey_range(passkey), |session| {
+            pairing::confirmation_needed(session, clock, passkey)
+        })
     }
 
     pub fn passkey_write(
@@ -77,15 +69,13 @@ impl Device {
         ensures value { result ≡ (step self (OnLink link.0 clock.0 (OnSession (PasskeyWrite block.now salt out.old)))).gives }
         ensures out_after { out.new ∷ [] ≡ (step self (OnLink link.0 clock.0 (OnSession (PasskeyWrite block.now salt out.old)))).leaves }
     {
-        let checked = self.on_known_link(link, clock, response_room(out.len()));
-        if !checked.passed {
-            return checked.outcome;
-        }
-        self = checked.outcome.next;
-        let session = self.sessions.at(link);
-        self.applied(
+        let device = match self.on_known_link(link, clock, response_room(out.len())) {
+            Ok(device) => device,
+            Err(refused) => return refused,
+        };
+        device.applied(
             link,
-            pairing::passkey_write(session, clock, block, salt, out),
+            pairing::passkey_write(device.sessions.at(link), clock, block, salt, out),
         )
     }
 
@@ -93,39 +83,27 @@ impl Device {
         requires { Valid self }
         ensures { result ≡ (step self (OnLink link.0 clock.0 (OnSession (PairingEnded success)))).gives }
     {
-        let checked = self.on_known_link(link, clock, Answer::Taken);
-        if !checked.passed {
-            return checked.outcome;
-        }
-        self = checked.outcome.next;
-        let session = self.sessions.at(link);
-        self.applied(link, pairing::pairing_ended(session, clock, success))
+        self.on_session(link, clock, Ok(()), |session| {
+            pairing::pairing_ended(session, clock, success)
+        })
     }
 
     pub fn account_key_write(mut self, link: Link, clock: Moment, block: &[u8]) -> Outcome
         requires { Valid self }
         ensures { result ≡ (step self (OnLink link.0 clock.0 (OnSession (AccountKeyWrite block.now)))).gives }
     {
-        let checked = self.on_known_link(link, clock, Answer::Taken);
-        if !checked.passed {
-            return checked.outcome;
-        }
-        self = checked.outcome.next;
-        let session = self.sessions.at(link);
-        self.applied(link, pairing::account_key_write(session, block))
+        self.on_session(link, clock, Ok(()), |session| {
+            pairing::account_key_write(session, block)
+        })
     }
 
     pub fn name_write(mut self, link: Link, clock: Moment, packet: &[u8]) -> Outcome
         requires { Valid self }
         ensures { result ≡ (step self (OnLink link.0 clock.0 (OnSession (NameWrite packet.now)))).gives }
     {
-        let checked = self.on_known_link(link, clock, name_size(packet));
-        if !checked.passed {
-            return checked.outcome;
-        }
-        self = checked.outcome.next;
-        let session = self.sessions.at(link);
-        self.applied(link, pairing::name_write(session, packet))
+        self.on_session(link, clock, name_size(packet), |session| {
+            pairing::name_write(session, packet)
+        })
     }
 
     pub fn key_based_write(
@@ -133,7 +111,7 @@ impl Device {
         link: Link,
         clock: Moment,
         request: &[u8],
-        element: Element,
+        element: Option<[u8; 32]>,
         salt: [u8; 9],
         nonce: [u8; 8],
         out: &mut [u8],
@@ -144,47 +122,61 @@ impl Device {
         ensures packet_after { out.new ∷ packet.new ∷ [] ≡ (step self (OnLink link.0 clock.0 (KeyBasedWrite request.now element salt nonce out.old packet.old))).leaves }
     {
         let early = request_size(request, out.len(), packet.len());
-        let checked = self.on_known_link(link, clock, early);
-        if !checked.passed {
-            return checked.outcome;
-        }
-        self = checked.outcome.next;
-        let session = self.sessions.at(link);
-        let context = self.context();
-        self.requested(
+        let device = match self.on_known_link(link, clock, early) {
+            Ok(device) => device,
+            Err(refused) => return refused,
+        };
+        device.requested(
             link,
             key_based::decide(
-                context, session, clock, request, element, salt, nonce, out, packet,
+                device.context(),
+                device.sessions.at(link),
+                clock,
+                request,
+                element,
+                salt,
+                nonce,
+                out,
+                packet,
             ),
         )
     }
 
+    // An event on a link's session that lends no output: the checks, and then what `event` makes of the session.
+    fn on_session<F: FnOnce(Session) -> SessionOutcome>(
+        self,
+        link: Link,
+        clock: Moment,
+        early: Result<(), Answer>,
+        event: F,
+    ) -> Outcome
+        requires valid { Valid self }
+        requires callable { F.IsAlwaysCallable event }
+        ensures { Continues (on_known_link self link.0 clock.0 early) (λ device next. (outcome : SessionOutcome) × F.post event (session_at device.sessions link.0) outcome × (next ≡ rule.applied device link.0 outcome)) result }
+    {
+        match self.on_known_link(link, clock, early) {
+            Ok(device) => device.applied(link, event(device.sessions.at(link))),
+            Err(refused) => refused,
+        }
+    }
+
     // The device with what an event made of its session.
-    fn applied(mut self, link: Link, outcome: SessionOutcome) -> Outcome
+    fn applied(self, link: Link, outcome: SessionOutcome) -> Outcome
         requires { (link.0 < link_count) × Kept self.keys }
         ensures { result ≡ rule.applied self link.0 outcome }
     {
-        let sessions = self.sessions;
-        let keys = self.keys;
-        let beacon = self.beacon;
-        let session = outcome.session;
-        let answer = outcome.answer;
-        let confirm = outcome.confirm;
-        let name = self.name;
-        let stored = outcome.stored_in(keys);
-        self.sessions = sessions.with(link, session);
-        self.keys = stored;
-        self.beacon = beacon.refreshed(outcome.adds_to(keys), stored);
-        self.name = outcome.renamed_in(name);
+        let keys = outcome.stored_in(self.keys);
         Outcome {
-            next: self,
+            next: Device {
+                sessions: self.sessions.with(link, outcome.session),
+                keys,
+                beacon: self.beacon.refreshed(outcome.adds_to(self.keys), keys),
+                name: outcome.renamed_in(self.name),
+                ..self
+            },
             reply: Reply {
-                answer: answer,
-                tried: 0,
-                named: Named::Neither,
-                bond: key_based::no_bond(),
-                confirm: confirm,
-                packet: 0,
+                confirm: outcome.confirm,
+                ..Reply::of(outcome.answer)
             },
         }
     }
@@ -193,20 +185,14 @@ impl Device {
     fn context(self) -> Context
         ensures { result ≡ rule.context_of self }
     {
-        let ble = self.beacon.ble;
-        let public = self.identity.public;
-        let keys = self.keys;
-        let guard = self.guard;
-        let wait = self.wait;
-        let name = self.name;
         Context {
-            ble: ble,
-            public: public,
+            ble: self.beacon.ble,
+            public: self.identity.public,
             pairing: self.beacon.pairing,
-            keys: keys,
-            guard: guard,
-            wait: wait,
-            name: name,
+            keys: self.keys,
+            guard: self.guard,
+            wait: self.wait,
+            name: self.name,
         }
     }
 
@@ -215,81 +201,71 @@ impl Device {
         requires { (link.0 < link_count) × Kept self.keys × names.Valid self.name }
         ensures { result ≡ rule.requested self link.0 decision }
     {
-        let sessions = self.sessions;
-        let keys = self.keys;
-        let session = decision.session;
-        let key = session.key;
-        let guard = decision.guard;
-        let answer = decision.answer;
-        let named = decision.named;
-        let bond = decision.bond;
-        let wait = self.wait;
-        let name = self.name;
-        let packet = key_based::packet_length(decision.sends, name);
-        self.sessions = sessions.with(link, session);
-        self.keys = key_based::used_in(decision.uses, key, keys);
-        self.guard = guard;
-        self.wait = wait.after(named.asks_rotation());
+        self.keys = key_based::used_in(decision.uses, decision.session.key, self.keys);
+        self.guard = decision.guard;
+        self.wait = self
+            .wait
+            .after(decision.named.is_some_and(Named::asks_rotation));
+        self.sessions = self.sessions.with(link, decision.session);
         Outcome {
             next: self,
             reply: Reply {
-                answer: answer,
                 tried: decision.tried,
-                named: named,
-                bond: bond,
-                confirm: Confirm::Unasked,
-                packet: packet,
+                named: decision.named,
+                bond: decision.bond,
+                packet: key_based::packet_length(decision.sends, self.name),
+                ..Reply::of(decision.answer)
             },
         }
     }
 }
 
 // Answer 3: a passkey has six digits.
-fn passkey_range(passkey: u32) -> Answer
+fn passkey_range(passkey: u32) -> Result<(), Answer>
     ensures { result ≡ rule.passkey_range passkey }
 {
     if 999999 < passkey {
-        return Answer::PasskeyTooLarge;
+        return Err(Answer::PasskeyTooLarge);
     }
-    Answer::Taken
+    Ok(())
 }
 
 // Answer 13: a response has 16 bytes.
-fn response_room(length: usize) -> Answer
+fn response_room(length: usize) -> Result<(), Answer>
     ensures { result ≡ rule.response_room length }
 {
     if length < 16 {
-        return Answer::OutputTooShort;
+        return Err(Answer::OutputTooShort);
     }
-    Answer::Taken
+    Ok(())
 }
 
 // Answer 13 of a key-based write: a packet has up to 80 bytes, which are asked for even where none is sent.
-fn outputs_room(response: usize, packet: usize) -> Answer
+fn outputs_room(response: usize, packet: usize) -> Result<(), Answer>
     ensures { result ≡ rule.outputs_room response packet }
 {
     if packet < 80 {
-        return Answer::OutputTooShort;
+        return Err(Answer::OutputTooShort);
     }
     response_room(response)
 }
 
 // Answers 2 and 13.
-fn request_size(request: &[u8], response: usize, packet: usize) -> Answer
+fn request_size(request: &[u8], response: usize, packet: usize) -> Result<(), Answer>
     ensures { result ≡ rule.request_size request.now response packet }
 {
     if !key_based::is_sized(request) {
-        return Answer::WrongLength;
+        return Err(Answer::WrongLength);
     }
     outputs_room(response, packet)
 }
 
 // Answer 2 of a name write.
-fn name_size(packet: &[u8]) -> Answer
+fn name_size(packet: &[u8]) -> Result<(), Answer>
     ensures { result ≡ rule.name_size packet.now }
 {
     if !additional_data::is_sized(packet) {
-        return Answer::WrongLength;
+        return Err(Answer::WrongLength);
     }
-    Answer::Taken
+    Ok(())
 }

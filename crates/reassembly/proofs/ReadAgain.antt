@@ -13,18 +13,17 @@ use borrow.Author.Tests.{ltb-true, ltb-false, leb-true, leb-false, le-ltb, lt-lt
 use Rattle.laws.proofs.Choice.{and_false, and_left, and_right}
 use Rattle.laws.specs.BigEndian.{number2}
 use Rattle.laws.specs.Choice.{◌and◌}
-use Rattle.std.specs.Prelude.{if◌then◌else◌}
+use Rattle.std.specs.Prelude.{Some, None, if◌then◌else◌}
 use Rattle.recording.specs.Reading.{size_in, zeros}
-use Rattle.reassembly.proofs.Held.{longer_is, open_none, open_unfinished, unfinished_long, unfinished_short, waiting_held, waiting_skipped}
+use Rattle.reassembly.proofs.Held.{longer_is, open_unfinished, unfinished_long, unfinished_short, waiting_held, waiting_skipped}
 use Rattle.reassembly.specs.Parts.{is_too_long, is_held, is_open, read_again, skipping, none, unfinished, waiting, Open, longer}
-use Rattle.reassembly.specs.declared.Again.{Again}
 use Rattle.reassembly.specs.declared.Unfinished.{Unfinished}
 
 -- ---- fields that may hold anything
 
 -- what is read again, by whether it is one record that is not whole
 module _ (u : Unfinished) where
-  pub again_skips : (u.skip ≡ 0 → ⊥) → u.count ≡ 0 → record { good = true; unfinished = skipping u.skip } ≡ read_again u
+  pub again_skips : (u.skip ≡ 0 → ⊥) → u.count ≡ 0 → Some (skipping u.skip) ≡ read_again u
   unfolding read_again
   again_skips h e =
       let some : 0 < u.skip = omega (arith, h) in
@@ -35,9 +34,9 @@ module _ (u : Unfinished) where
       ∙ sym (unfinished_long front (omega arith) (omega (arith, some)))
       ∙ ap unfinished (sym (waiting_skipped u some))
       in
-      (λ i. record { good = true; unfinished = held i }) ∙ rw (ne_eqb u.skip 0 h, eq-eqb u.count 0 e)
+      ap Some held ∙ rw (ne_eqb u.skip 0 h, eq-eqb u.count 0 e)
 
-  pub again_both : (u.skip ≡ 0 → ⊥) → (u.count ≡ 0 → ⊥) → record { good = false; unfinished = none } ≡ read_again u
+  pub again_both : (u.skip ≡ 0 → ⊥) → (u.count ≡ 0 → ⊥) → None ≡ read_again u
   unfolding read_again
   again_both h k = rw (ne_eqb u.skip 0 h, ne_eqb u.count 0 k)
 
@@ -45,23 +44,23 @@ module _ (u : Unfinished) where
     abbrev bs : List ℕ
     bs = take u.count u.bytes
 
-    pub again_over : 1025 < u.count → record { good = false; unfinished = none } ≡ read_again u
+    pub again_over : 1025 < u.count → None ≡ read_again u
     unfolding read_again
     again_over h = rw (eq-eqb u.skip 0 e, lt-leb u.count 1025 h)
 
     -- the bytes are held, or they are not
-    pub again_held : u.count ≤ 1025 → is_held bs ≡ true → {v : Unfinished} → v ≡ longer none bs → record { good = true; unfinished = v } ≡ read_again u
+    pub again_held : u.count ≤ 1025 → is_held bs ≡ true → {v : Unfinished} → v ≡ longer none bs → Some v ≡ read_again u
     unfolding read_again
     again_held h k q =
         let short : 2 ≤ length bs → size_in bs ≤ 1024 = λ j. not-long bs j (and_right (ltb (length bs) (2 + size_in bs)) (not (is_too_long bs)) k) in
         let held = q ∙ longer_is none bs refl ∙ sym (unfinished_short bs short) ∙ ap unfinished (sym (waiting_held u e)) in
-        (λ i. record { good = true; unfinished = held i }) ∙ rw (eq-eqb u.skip 0 e, le-leb u.count 1025 h, k)
+        ap Some held ∙ rw (eq-eqb u.skip 0 e, le-leb u.count 1025 h, k)
       where
         not-long : (l : List ℕ) → 2 ≤ length l → not (leb 2 (length l) and ltb 1024 (size_in l)) ≡ true → size_in l ≤ 1024
         not-long l j k =
             ltb-false 1024 (size_in l) (not-true (ltb 1024 (size_in l)) (ap (λ (b : Bool). not (b and ltb 1024 (size_in l))) (sym (le-leb 2 (length l) j)) ∙ k))
 
-    pub again_unheld : u.count ≤ 1025 → is_held bs ≡ false → record { good = false; unfinished = none } ≡ read_again u
+    pub again_unheld : u.count ≤ 1025 → is_held bs ≡ false → None ≡ read_again u
     unfolding read_again
     again_unheld h k = rw (eq-eqb u.skip 0 e, le-leb u.count 1025 h, k)
 
@@ -88,7 +87,7 @@ module _ (u : Unfinished) (e : u.skip ≡ 0) (few : u.count ≤ 1025) (full : le
   count_long = length-take-le u.count u.bytes (omega (arith, few, full))
 
   pub again_byte : {v : Unfinished} → u.count < 2 → v ≡ longer none (take u.count u.bytes)
-      → record { good = true; unfinished = v } ≡ read_again u
+      → Some v ≡ read_again u
   again_byte h q = again_held u e few (held_short (take u.count u.bytes) (omega (arith, h, count_long))) q
 
   module _ {n : ℕ} (h : 2 ≤ u.count) (r : n ≡ number2 (get_or u.bytes 0 0) (get_or u.bytes 1 0)) where
@@ -96,24 +95,24 @@ module _ (u : Unfinished) (e : u.skip ≡ 0) (few : u.count ≤ 1025) (full : le
     field-read =
         (λ i. number2 (get_or-take u.count u.bytes 0 0 (omega (arith, h)) i) (get_or-take u.count u.bytes 1 0 (omega (arith, h)) i)) ∙ sym r
 
-    pub again_long : 1024 < n → record { good = false; unfinished = none } ≡ read_again u
+    pub again_long : 1024 < n → None ≡ read_again u
     again_long k =
         again_unheld u e few (long_unheld (take u.count u.bytes) (omega (arith, h, count_long)) (omega (arith, k, field-read)))
 
-    pub again_whole : n ≤ u.count - 2 → record { good = false; unfinished = none } ≡ read_again u
+    pub again_whole : n ≤ u.count - 2 → None ≡ read_again u
     again_whole k = again_unheld u e few (whole_unheld (take u.count u.bytes) (omega (arith, k, h, field-read, count_long)))
 
     pub again_cut : {v : Unfinished} → n ≤ 1024 → u.count - 2 < n → v ≡ longer none (take u.count u.bytes)
-        → record { good = true; unfinished = v } ≡ read_again u
+        → Some v ≡ read_again u
     again_cut k j q =
         again_held u e few
         (held_field (take u.count u.bytes) (omega (arith, k, field-read)) (omega (arith, j, h, field-read, count_long))) q
 
 -- ---- what was handed out reads back, and whatever is read is one record that is not whole
 
-pub again_open : (u : Unfinished) → Open (read_again u).unfinished
+pub again_open : (u v : Unfinished) → Some v ≡ read_again u → Open v
 unfolding read_again
-again_open u = by-test (is_open u) refl
+again_open u v = by-test (is_open u) refl
   where
     by-skip : (t : Bool) → eqb u.skip 0 ≡ t
         → (if t then leb u.count 1025 and is_held (take u.count u.bytes) else eqb u.count 0) ≡ true
@@ -127,21 +126,21 @@ again_open u = by-test (is_open u) refl
         let some : 0 < u.skip = omega (arith, eqb-false u.skip 0 z) in
         subst (λ (l : List ℕ). length l < 2 + size_in l) (sym (waiting_skipped u some)) (omega (arith, some))
 
-    by-test : (b : Bool) → is_open u ≡ b
-        → Open (Again.unfinished (if b then record { good = true; unfinished = unfinished (waiting u) } else record { good = false; unfinished = none }))
-    by-test true e = open_unfinished (waiting u) (by-skip (eqb u.skip 0) refl e)
-    by-test false e = open_none
+    by-test : (b : Bool) → is_open u ≡ b → Some v ≡ (if b then Some (unfinished (waiting u)) else None) → Open v
+    by-test true e h =
+        let same : unfinished (waiting u) ≡ v = cc in subst Open same (open_unfinished (waiting u) (by-skip (eqb u.skip 0) refl e))
+    by-test false e h = cc
 
-pub reads_back : (u : Unfinished) → Open u → read_again u ≡ record { good = true; unfinished = u }
+pub reads_back : (u : Unfinished) → Open u → read_again u ≡ Some u
 reads_back u (inl s) =
     sym (again_skips u (λ e. some e) (ap (λ (v : Unfinished). v.count) s.empty))
-    ∙ (λ i. record { good = true; unfinished = sym s.empty i })
+    ∙ ap Some (sym s.empty)
   where
     some : u.skip ≡ 0 → ⊥
     some e = omega (arith, s.some, e)
 reads_back u (inr s) =
     sym (again_held u s.unskipped few (held (leb 2 (length bytes)) refl) refl)
-    ∙ (λ i. record { good = true; unfinished = (longer_is none bytes refl ∙ sym s.whole) i })
+    ∙ ap Some (longer_is none bytes refl ∙ sym s.whole)
   where
     bytes : List ℕ
     bytes = take u.count u.bytes

@@ -1,11 +1,10 @@
 -- Document 02 (viii): a recording arrives in parts, and "at most one unfinished record is held".
 -- Assumes nothing.
-use Rattle.std.specs.Prelude.{Bool, true, false, not, List, [], ◌∷◌, ◌++◌, ◌⊎◌, ◌≡◌, ℕ, ◌+◌, ◌-◌, ◌<◌, ◌≤◌, eqb, ltb, leb, length, take, drop, if◌then◌else◌}
+use Rattle.std.specs.Prelude.{Bool, not, List, [], ◌∷◌, ◌++◌, ◌⊎◌, ◌≡◌, ℕ, ◌+◌, ◌-◌, ◌<◌, ◌≤◌, eqb, ltb, leb, length, take, drop, Option, Some, None, if◌then◌else◌}
 use Rattle.std.proofs.Math.Seq.{paste}
 use Rattle.laws.specs.Choice.{◌and◌}
 use Rattle.laws.specs.Lists.{padded}
 use Rattle.recording.specs.Reading.{size_in, divide, zeros}
-use Rattle.reassembly.specs.declared.Again.{Again}
 use Rattle.reassembly.specs.declared.Found.TheVariants.{Nothing, Held, TooLong}
 use Rattle.reassembly.specs.declared.Taken.{Taken}
 use Rattle.reassembly.specs.declared.Unfinished.{Unfinished}
@@ -64,9 +63,8 @@ abbrev pub is_open : Unfinished → Bool
 is_open u = if eqb u.skip 0 then leb u.count 1025 and is_held (take u.count u.bytes) else eqb u.count 0
 
 -- bytes behind those that are held do not count
-unfoldable pub read_again : Unfinished → Again
-read_again u =
-    if is_open u then record { good = true; unfinished = unfinished (waiting u) } else record { good = false; unfinished = none }
+unfoldable pub read_again : Unfinished → Option Unfinished
+read_again u = if is_open u then Some (unfinished (waiting u)) else None
 
 -- ---- a part behind it, up to the end of one record
 

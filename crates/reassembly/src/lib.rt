@@ -2,7 +2,7 @@
 // is too long nothing is held but how much of it is still to be skipped.
 #![tactic(auto)]
 
-ghost use Rattle.std.specs.Prelude.{true, false, ◌≡◌, ◌+◌, ◌<◌, ◌≤◌, length, drop};
+ghost use Rattle.std.specs.Prelude.{true, ◌≡◌, ◌+◌, ◌<◌, ◌≤◌, length, drop};
 ghost use Rattle.reassembly.specs.Parts as spec;
 ghost use Rattle.reassembly.specs.Parts.{Open, Holds, Filling, Unended};
 
@@ -43,13 +43,6 @@ pub struct Taken {
     pub found: Found,
 }
 
-// What reading again came to; `unfinished` is `none` where the fields are none.
-#[derive(Clone, Copy)]
-pub struct Again {
-    pub good: bool,
-    pub unfinished: Unfinished,
-}
-
 impl Unfinished {
     pub fn none() -> Unfinished
         ensures { result ≡ spec.none }
@@ -62,10 +55,7 @@ impl Unfinished {
         requires { Open self }
         ensures { result ≡ spec.is_cut self }
     {
-        if self.skip != 0 {
-            return true;
-        }
-        self.count != 0
+        self.skip != 0 || self.count != 0
     }
 
     // What is left of a part from a place on, where no record is whole.
@@ -90,67 +80,51 @@ impl Unfinished {
         ensures { result ≡ spec.taken self part.now at }
     {
         if part.len() <= at {
-            return Taken {
+            Taken {
                 next: self,
-                at: at,
+                at,
                 found: Found::Nothing,
-            };
+            }
+        } else if self.skip != 0 {
+            skip_on(self.skip, part, at)
+        } else if self.count == 1 {
+            self.with_length(part, at)
+        } else {
+            self.fill(reader::size(self.bytes[0], self.bytes[1]), part, at)
         }
-        if self.skip != 0 {
-            return skip_on(self.skip, part, at);
-        }
-        if self.count == 1 {
-            return self.with_length(part, at);
-        }
-        let high = self.bytes[0];
-        let low = self.bytes[1];
-        self.fill(reader::size(high, low), part, at)
     }
 
-    // Fields that may hold anything, read again.
-    pub fn read_again(self) -> Again
+    // Fields that may hold anything, read again; none where they hold no record that is not whole.
+    pub fn read_again(self) -> Option<Unfinished>
         ensures { result ≡ spec.read_again self }
     {
         if self.skip == 0 {
-            return self.bytes_again();
-        }
-        if self.count != 0 {
-            return not_open();
-        }
-        Again {
-            good: true,
-            unfinished: skipping(self.skip),
+            self.bytes_again()
+        } else if self.count == 0 {
+            Some(skipping(self.skip))
+        } else {
+            None
         }
     }
 
     // Bytes of a record, if that is not whole and not too long.
-    fn bytes_again(self) -> Again
+    fn bytes_again(self) -> Option<Unfinished>
         requires { self.skip ≡ 0 }
         ensures { result ≡ spec.read_again self }
     {
         let count = self.count;
         if HELD_MAX < count {
-            return not_open();
+            return None;
         }
-        let bytes = self.bytes;
-        let held = rest(&bytes[..count], 0);
+        let held = rest(&self.bytes[..count], 0);
         if count < 2 {
-            return Again {
-                good: true,
-                unfinished: held,
-            };
+            return Some(held);
         }
-        let size = reader::size(bytes[0], bytes[1]);
-        if LENGTH_MAX < size {
-            return not_open();
+        let size = reader::size(self.bytes[0], self.bytes[1]);
+        if LENGTH_MAX < size || size <= count - 2 {
+            return None;
         }
-        if size <= count - 2 {
-            return not_open();
-        }
-        Again {
-            good: true,
-            unfinished: held,
-        }
+        Some(held)
     }
 
     // The second byte of the length field comes.
@@ -158,9 +132,7 @@ impl Unfinished {
         requires { Holds self × (self.count ≡ 1) × (at < length part.now) }
         ensures { result ≡ spec.taken self part.now at }
     {
-        let high = self.bytes[0];
-        let low = part[at];
-        let size = reader::size(high, low);
+        let size = reader::size(self.bytes[0], part[at]);
         if LENGTH_MAX < size {
             return skip_on(size, part, at + 1);
         }
@@ -196,20 +168,10 @@ impl Unfinished {
         let mut bytes = self.bytes;
         basics::copy(&mut bytes, self.count, more);
         Unfinished {
-            bytes: bytes,
+            bytes,
             count: self.count + more.len(),
             skip: 0,
         }
-    }
-}
-
-// Fields that are none.
-fn not_open() -> Again
-    ensures { result ≡ record { good = false; unfinished = spec.none } }
-{
-    Again {
-        good: false,
-        unfinished: skipping(0),
     }
 }
 
@@ -218,9 +180,9 @@ fn skipping(skip: usize) -> Unfinished
     ensures { result ≡ spec.skipping skip }
 {
     Unfinished {
-        bytes: [0u8; RECORD_MAX],
+        bytes: [0; RECORD_MAX],
         count: 0,
-        skip: skip,
+        skip,
     }
 }
 
@@ -229,8 +191,7 @@ fn rest(part: &[u8], at: usize) -> Unfinished
     requires { (at ≤ length part.now) × (length part.now ≤ at + 1026) }
     ensures { result ≡ spec.longer spec.none (drop at part.now) }
 {
-    let empty = skipping(0);
-    empty.with(&part[at..])
+    skipping(0).with(&part[at..])
 }
 
 // The part goes on in a record that is too long.

@@ -1,5 +1,5 @@
 // What C firmware links to record: one exported function for each kind of event. include/fastpair.h is their page for C.
-#![tactic(auto)]
+#![tactic(auto, unfolding(recording::specs::Layout::body))]
 
 mod device_records;
 mod link_records;

@@ -8,18 +8,18 @@ use native.Mathlib.Omega.{arith}
 use lib.ListN.{length, drop, get_or, length-append}
 use lib.Dec.{eqb, leb}
 use Rattle.laws.specs.Choice.{◌and◌}
-use Rattle.std.specs.Prelude.{if◌then◌else◌}
+use Rattle.std.specs.Option.{is_some}
+use Rattle.std.specs.Prelude.{Option, Some, None, IfSome}
 use borrow.Author.Tests.{le-ltb, le-leb, eq-eqb}
 use Rattle.laws.specs.BigEndian.{bytes, number}
-use Rattle.key_based.specs.declared.Element.{Element}
 use Rattle.pairing.specs.Pairing.{PairingEvent, PairingStarted, ConfirmationNeeded, PasskeyWrite, PairingEnded, AccountKeyWrite, NameWrite}
 use Rattle.provider.specs.Rules.Event.{Event, Overflow, PowerOn, OnDevice, OnLink, DeviceEvent, PairingMode, AddressRotated, FactoryReset, LinkEvent, LinkUp, LinkDown, KeyBasedWrite, OnSession}
 use Rattle.provider.specs.declared.Start.{Start}
 use Rattle.recording.proofs.Fields.{part_behind, part_here, last_part, part_within, byte_behind, drop_behind}
 use Rattle.laws.proofs.Numbers.{number_read}
 use Rattle.recording.specs.Layout.{kind_byte, kind_of, kind_on_device, kind_on_link, kind_on_session, fields, body_of, body, flag, secret_of, element_bytes, start_bytes}
-use Rattle.recording.specs.Promises.{Fits, FitsStart, FitsOnDevice, FitsOnLink, FitsOnSession, kept, kept_element, kept_on_link, kept_on_session, RecordReads}
-use Rattle.recording.specs.Reading.{list_length, start_at, read_power_on, key_based_fields, read_key_based_write, is_flag, is_element, element_at, or_marker, kind_in, kind_read, read_as, read_passkey_write, part, number_at, zeros}
+use Rattle.recording.specs.Promises.{Fits, FitsStart, FitsOnDevice, FitsOnLink, FitsOnSession, kept, kept_on_link, kept_on_session, RecordReads}
+use Rattle.recording.specs.Reading.{list_length, start_at, read_power_on, key_based_fields, read_key_based_write, is_flag, secret_if, is_element, element_at, is_element_at, or_marker, kind_in, kind_read, read_as, read_passkey_write, part, number_at, zeros}
 use Rattle.recording.specs.declared.Kind.{Kind}
 use Rattle.recording.specs.declared.Kind.TheVariants as kind
 
@@ -165,9 +165,9 @@ on_session l t (NameWrite packet) h f =
 
 -- ---- key-based write
 
-secret_sized : (accepted : Bool) (s : List ℕ) → length s ≡ 32 → length (if accepted then s else zeros 32) ≡ 32
-secret_sized true s h = h
-secret_sized false s h = refl
+secret_sized : (e : Option (List ℕ)) → IfSome e (λ s. length s ≡ 32) → length (secret_of e) ≡ 32
+secret_sized (Some s) h = h
+secret_sized None h = refl
 
 flag_sized : (accepted : Bool) → is_flag (flag accepted) ≡ true
 flag_sized true = refl
@@ -177,11 +177,15 @@ flag_read : (accepted : Bool) → eqb (flag accepted) 1 ≡ accepted
 flag_read true = refl
 flag_read false = refl
 
-element_read : (accepted : Bool) (s : List ℕ) → is_element (kept_element (record { accepted = accepted; secret = s })) ≡ true
-element_read true s = refl
-element_read false s = refl
+secret_read : (e : Option (List ℕ)) → secret_if (is_some e) (secret_of e) ≡ e
+secret_read (Some s) = refl
+secret_read None = refl
 
-module _ (front request : List ℕ) (e : Element) (salt nonce : List ℕ) (n m : ℕ) (f : length front ≡ 11) (p : length e.secret ≡ 32) (q : length salt ≡ 9) (u : length nonce ≡ 8) (h : n < 2 ^ 64) (k : m < 2 ^ 64) where
+element_read : (e : Option (List ℕ)) → is_element (is_some e) (secret_of e) ≡ true
+element_read (Some s) = refl
+element_read None = refl
+
+module _ (front request : List ℕ) (e : Option (List ℕ)) (salt nonce : List ℕ) (n m : ℕ) (f : length front ≡ 11) (p : IfSome e (λ s. length s ≡ 32)) (q : length salt ≡ 9) (u : length nonce ≡ 8) (h : n < 2 ^ 64) (k : m < 2 ^ 64) where
   abbrev tail : List ℕ
   tail = element_bytes e ++ (salt ++ (nonce ++ (bytes 8 n ++ bytes 8 m)))
 
@@ -196,7 +200,7 @@ module _ (front request : List ℕ) (e : Element) (salt nonce : List ℕ) (n m :
       ∙ append_assoc request (element_bytes e) (salt ++ (nonce ++ (bytes 8 n ++ bytes 8 m))))
 
   element-long : length (element_bytes e) ≡ 33
-  element-long = ap suc (secret_sized e.accepted e.secret p)
+  element-long = ap suc (secret_sized e p)
 
   tail-long : length tail ≡ 66
   tail-long =
@@ -218,7 +222,7 @@ module _ (front request : List ℕ) (e : Element) (salt nonce : List ℕ) (n m :
       ∙ part_behind front (request ++ tail) j (length request + i) w (omega (arith, f, d))
       ∙ part_behind request tail (length request + i) i w (omega arith)
 
-  read-flag : get_or requestRecord at 0 ≡ flag e.accepted
+  read-flag : get_or requestRecord at 0 ≡ flag (is_some e)
   read-flag =
       ap (λ l. get_or l at 0) request-parts
       ∙ byte_behind front (request ++ tail) at (length request) (omega (arith, f, request-long))
@@ -227,12 +231,13 @@ module _ (front request : List ℕ) (e : Element) (salt nonce : List ℕ) (n m :
   read-secret : part (at + 1) 32 requestRecord ≡ secret_of e
   read-secret =
       request-behind (at + 1) 1 32 (omega (arith, request-long))
-      ∙ part_here (secret_of e) (salt ++ (nonce ++ (bytes 8 n ++ bytes 8 m))) 32 (secret_sized e.accepted e.secret p)
+      ∙ part_here (secret_of e) (salt ++ (nonce ++ (bytes 8 n ++ bytes 8 m))) 32 (secret_sized e p)
 
-  read-element : element_at at requestRecord ≡ kept_element e
-  read-element =
-      let a = ap (λ b. eqb b 1) read-flag ∙ flag_read e.accepted in
-      λ i. record { accepted = a i; secret = read-secret i }
+  read-accepted : eqb (get_or requestRecord at 0) 1 ≡ is_some e
+  read-accepted = ap (λ b. eqb b 1) read-flag ∙ flag_read (is_some e)
+
+  read-element : element_at at requestRecord ≡ e
+  read-element = (λ i. secret_if (read-accepted i) (read-secret i)) ∙ secret_read e
 
   read-salt : part (at + 33) 9 requestRecord ≡ salt
   read-salt =
@@ -267,14 +272,14 @@ module _ (front request : List ℕ) (e : Element) (salt nonce : List ℕ) (n m :
       ∙ part_behind front (request ++ tail) 11 0 (at - 11) (omega (arith, f))
       ∙ part_here request tail (at - 11) (omega (arith, request-long))
 
-  request-read : key_based_fields at requestRecord ≡ KeyBasedWrite request (kept_element e) salt nonce (zeros n) (zeros m)
+  request-read : key_based_fields at requestRecord ≡ KeyBasedWrite request e salt nonce (zeros n) (zeros m)
   request-read =
       λ i. KeyBasedWrite (read-request i) (read-element i) (read-salt i) (read-nonce i) (zeros (read_out i)) (zeros (read-packet i))
 
-  request_sized : (leb 77 (length requestRecord) and is_flag (get_or requestRecord at 0) and is_element (element_at at requestRecord)) ≡ true
+  request_sized : (leb 77 (length requestRecord) and is_flag (get_or requestRecord at 0) and is_element_at at requestRecord) ≡ true
   request_sized =
       let long : leb 77 (length requestRecord) ≡ true = le-leb 77 (length requestRecord) (omega (arith, request-long)) in
-      all_three long (ap is_flag read-flag ∙ flag_sized e.accepted) (ap is_element read-element ∙ element_read e.accepted e.secret)
+      all_three long (ap is_flag read-flag ∙ flag_sized (is_some e)) ((λ i. is_element (read-accepted i) (read-secret i)) ∙ element_read e)
 
 on_link_lem : (l t : ℕ) (e : LinkEvent) → t < 2 ^ 64 → FitsOnLink e
     → read_as (kind_on_link e) (body_of (kind_on_link e) (fields (OnLink l t e))) ≡ OnLink l t (kept_on_link e)

@@ -14,17 +14,16 @@ use Rattle.laws.proofs.Bitwise.{by_bit}
 use Rattle.laws.proofs.Choice.{or_false_left, or_false_right, and_left, and_right}
 use Rattle.laws.specs.BigEndian.{bytes}
 use Rattle.laws.specs.Choice.{◌and◌, ◌or◌}
-use Rattle.std.specs.Prelude.{if◌then◌else◌}
+use Rattle.std.specs.Option.{is_some}
+use Rattle.std.specs.Prelude.{Option, if◌then◌else◌}
 use Rattle.laws.specs.Lists.{All}
 use Rattle.provider.specs.Rules.Event.{Event, Overflow, PowerOn, OnDevice, PairingMode, AddressRotated, FactoryReset, LinkEvent, LinkUp, LinkDown, OnSession}
 use Rattle.provider.specs.declared.Start.{Start}
-use Rattle.key_based.specs.declared.Element.{Element}
 use Rattle.basics.proofs.Laws.{same_eq}
-use Rattle.basics.specs.Bytes.{same}
 use Rattle.recording.proofs.Fields.{part_and_rest, byte_and_rest, length_part, number_part, nothing_behind, last_field}
 use Rattle.recording.specs.Layout.{kind_byte, kind_of, fields, flag, body, on_link_fields, secret_of, element_bytes, start_bytes}
 use Rattle.recording.specs.Promises.{IsByte, OnlyRecordsRead}
-use Rattle.recording.specs.Reading.{element_at, is_element, key_based_fields, passkey_fields, list_length, start_at, kinds, kind_among, kind_in, kind_read, or_marker, link_event, number_at, part, is_flag, zeros, read_as, read_power_on, read_key_based_write, read_passkey_write}
+use Rattle.recording.specs.Reading.{secret_if, element_at, is_element, is_element_at, key_based_fields, passkey_fields, list_length, start_at, kinds, kind_among, kind_in, kind_read, or_marker, link_event, number_at, part, is_flag, zeros, read_as, read_power_on, read_key_based_write, read_passkey_write}
 use Rattle.recording.specs.declared.Kind.{Kind}
 use Rattle.recording.specs.declared.Kind.TheVariants as kind
 
@@ -162,8 +161,8 @@ passkey_write_lem r bs h =
 -- ---- key-based write
 
 -- 66 bytes behind the request
-module _ (r : List ℕ) (bs : All IsByte r) (at : ℕ) (n : length r ≡ at + 66) (m : 11 ≤ at) (fl : is_flag (get_or r at 0) ≡ true) (el : is_element (element_at at r) ≡ true) where
-  abbrev e : Element
+module _ (r : List ℕ) (bs : All IsByte r) (at : ℕ) (n : length r ≡ at + 66) (m : 11 ≤ at) (fl : is_flag (get_or r at 0) ≡ true) (el : is_element_at at r ≡ true) where
+  abbrev e : Option (List ℕ)
   e = element_at at r
 
   abbrev o : List ℕ
@@ -172,16 +171,21 @@ module _ (r : List ℕ) (bs : All IsByte r) (at : ℕ) (n : length r ≡ at + 66
   abbrev q : List ℕ
   q = zeros (number_at (at + 58) 8 r)
 
+  accepted-back : (accepted : Bool) (s : List ℕ) → is_some (secret_if accepted s) ≡ accepted
+  accepted-back true s = refl
+  accepted-back false s = refl
+
   -- a rejected point's secret is zeros
-  secret-back : (accepted : Bool) (s : List ℕ) → (accepted or same s (zeros 32)) ≡ true → (if accepted then s else zeros 32) ≡ s
+  secret-back : (accepted : Bool) (s : List ℕ) → is_element accepted s ≡ true → secret_of (secret_if accepted s) ≡ s
   secret-back true s h = refl
   secret-back false s h = sym (same_eq s (zeros 32) h)
 
   element-back : element_bytes e ++ drop (at + 33) r ≡ drop at r
   element-back =
       let next : at + 1 ≡ suc at = omega arith in
-      ap (λ x. x ∷ (secret_of e ++ drop (at + 33) r)) (flag_back (get_or r at 0) fl)
-      ∙ ap (λ (l : List ℕ). get_or r at 0 ∷ (l ++ drop (at + 33) r)) (secret-back e.accepted e.secret el)
+      ap (λ x. flag x ∷ (secret_of e ++ drop (at + 33) r)) (accepted-back (eqb (get_or r at 0) 1) (part (at + 1) 32 r))
+      ∙ ap (λ x. x ∷ (secret_of e ++ drop (at + 33) r)) (flag_back (get_or r at 0) fl)
+      ∙ ap (λ (l : List ℕ). get_or r at 0 ∷ (l ++ drop (at + 33) r)) (secret-back (eqb (get_or r at 0) 1) (part (at + 1) 32 r) el)
       ∙ ap (λ (l : List ℕ). get_or r at 0 ∷ l) (part_and_rest r (at + 1) 32 (at + 33) (omega arith))
       ∙ ap (λ i. get_or r at 0 ∷ drop i r) next
       ∙ byte_and_rest r at (omega (arith, n))
@@ -210,16 +214,16 @@ module _ (r : List ℕ) (bs : All IsByte r) (at : ℕ) (n : length r ≡ at + 66
       ∙ part_and_rest r 11 (at - 11) at (omega (arith, m)))
 
 key_based_write : (r : List ℕ) → All IsByte r
-    → (leb 77 (length r) and is_flag (get_or r (length r - 66) 0) and is_element (element_at (length r - 66) r)) ≡ true
+    → (leb 77 (length r) and is_flag (get_or r (length r - 66) 0) and is_element_at (length r - 66) r) ≡ true
     → Behind kind.KeyBasedWrite (link_event r (key_based_fields (length r - 66) r)) r
 key_based_write r bs h =
     let at = length r - 66 in
-    let long = leb-true 77 (length r) (and_left (leb 77 (length r)) (is_flag (get_or r at 0) and is_element (element_at at r)) h) in
-    let good = and_right (leb 77 (length r)) (is_flag (get_or r at 0) and is_element (element_at at r)) h in (
+    let long = leb-true 77 (length r) (and_left (leb 77 (length r)) (is_flag (get_or r at 0) and is_element_at at r) h) in
+    let good = and_right (leb 77 (length r)) (is_flag (get_or r at 0) and is_element_at at r) h in (
       refl,
       key-based-back r bs at (omega (arith, long)) (omega (arith, long))
-          (and_left (is_flag (get_or r at 0)) (is_element (element_at at r)) good)
-          (and_right (is_flag (get_or r at 0)) (is_element (element_at at r)) good),
+          (and_left (is_flag (get_or r at 0)) (is_element_at at r) good)
+          (and_right (is_flag (get_or r at 0)) (is_element_at at r) good),
     )
 
 -- ---- power-on

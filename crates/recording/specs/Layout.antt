@@ -1,8 +1,8 @@
 -- Document 02 (iii), docs/RECORDING.md: the record of an event, byte by byte.
 -- Assumes nothing.
-use Rattle.std.specs.Prelude.{Bool, List, [], ◌∷◌, ◌++◌, ℕ, length, replicate, if◌then◌else◌}
+use Rattle.std.specs.Prelude.{Bool, List, [], ◌∷◌, ◌++◌, ℕ, length, replicate, Option, if◌then◌else◌}
+use Rattle.std.specs.Option.{is_some, unwrap_or}
 use Rattle.laws.specs.BigEndian.{bytes}
-use Rattle.key_based.specs.declared.Element.{Element}
 use Rattle.pairing.specs.Pairing.{PairingEvent, PairingStarted, ConfirmationNeeded, PasskeyWrite, PairingEnded, AccountKeyWrite, NameWrite}
 use Rattle.provider.specs.Rules.Event.{Event, Overflow, PowerOn, OnDevice, OnLink, DeviceEvent, PairingMode, AddressRotated, FactoryReset, LinkEvent, LinkUp, LinkDown, KeyBasedWrite, OnSession}
 use Rattle.provider.specs.declared.Start.{Start}
@@ -59,11 +59,11 @@ abbrev pub flag : Bool → ℕ
 flag b = if b then 1 else 0
 
 -- "If the point was rejected, 32 zero bytes stand for the secret"
-abbrev pub secret_of : Element → List ℕ
-secret_of e = if e.accepted then e.secret else replicate 32 0
+abbrev pub secret_of : Option (List ℕ) → List ℕ
+secret_of element = unwrap_or element (replicate 32 0)
 
-abbrev pub element_bytes : Element → List ℕ
-element_bytes e = flag e.accepted ∷ secret_of e
+abbrev pub element_bytes : Option (List ℕ) → List ℕ
+element_bytes element = flag (is_some element) ∷ secret_of element
 
 -- "addresses, model ID and salt"
 abbrev pub start_bytes : Start → List ℕ

@@ -1,12 +1,11 @@
 -- What is promised of recordings.
 -- Assumes nothing.
-use Rattle.std.specs.Prelude.{List, [], ◌∷◌, ◌++◌, map, ◌≡◌, ◌⊎◌, ℕ, ◌<◌, ◌≤◌, ◌^◌, length}
+use Rattle.std.specs.Prelude.{List, [], ◌∷◌, ◌++◌, map, ◌≡◌, ◌⊎◌, ℕ, ◌<◌, ◌≤◌, ◌^◌, length, IfSome}
 use Rattle.laws.specs.Lists.{All}
-use Rattle.key_based.specs.declared.Element.{Element}
 use Rattle.pairing.specs.Pairing.{PairingEvent, PairingStarted, ConfirmationNeeded, PasskeyWrite, PairingEnded, AccountKeyWrite, NameWrite}
 use Rattle.provider.specs.Rules.Event.{Event, Overflow, PowerOn, OnDevice, OnLink, DeviceEvent, PairingMode, AddressRotated, FactoryReset, LinkEvent, LinkUp, LinkDown, KeyBasedWrite, OnSession}
 use Rattle.provider.specs.declared.Start.{Start}
-use Rattle.recording.specs.Layout.{secret_of, body, framed, «record»}
+use Rattle.recording.specs.Layout.{body, framed, «record»}
 use Rattle.recording.specs.Reading.{zeros, event_in, divide, events}
 
 -- ---- events as code hands them over: every field has its size
@@ -38,7 +37,7 @@ abbrev pub FitsOnLink : LinkEvent → Type 0
 FitsOnLink LinkUp = Unit
 FitsOnLink LinkDown = Unit
 FitsOnLink (KeyBasedWrite request element salt nonce out packet) =
-    (length element.secret ≡ 32)
+    IfSome element (λ secret. length secret ≡ 32)
     × (length salt ≡ 9)
     × (length nonce ≡ 8)
     × (length out < 2 ^ 64)
@@ -51,10 +50,7 @@ Fits (PowerOn stored name start) = FitsStart start
 Fits (OnDevice t e) = (t < 2 ^ 64) × FitsOnDevice e
 Fits (OnLink l t e) = (t < 2 ^ 64) × FitsOnLink e
 
--- ---- what a record keeps of an event: of a lent output its length, of a rejected point nothing
-
-abbrev pub kept_element : Element → Element
-kept_element e = record { accepted = e.accepted; secret = secret_of e }
+-- ---- what a record keeps of an event: of a lent output its length
 
 abbrev pub kept_on_session : PairingEvent → PairingEvent
 kept_on_session (PairingStarted capability) = PairingStarted capability
@@ -68,7 +64,7 @@ abbrev pub kept_on_link : LinkEvent → LinkEvent
 kept_on_link LinkUp = LinkUp
 kept_on_link LinkDown = LinkDown
 kept_on_link (KeyBasedWrite request element salt nonce out packet) =
-    KeyBasedWrite request (kept_element element) salt nonce (zeros (length out)) (zeros (length packet))
+    KeyBasedWrite request element salt nonce (zeros (length out)) (zeros (length packet))
 kept_on_link (OnSession e) = OnSession (kept_on_session e)
 
 abbrev pub kept : Event → Event

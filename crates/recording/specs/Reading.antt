@@ -1,16 +1,16 @@
 -- Document 02 (iii), docs/RECORDING.md: a recording, read by whole records; what is no record is an overflow marker.
 -- Assumes nothing.
-use Rattle.std.specs.Prelude.{Bool, not, List, [], ◌∷◌, ◌++◌, map, ℕ, zero, suc, ◌+◌, ◌-◌, eqb, ltb, leb, length, take, drop, get_or, replicate, if◌then◌else◌}
+use Rattle.std.specs.Prelude.{◌≡◌, Result, MatchResult, Bool, not, List, [], ◌∷◌, ◌++◌, map, ℕ, zero, suc, ◌+◌, ◌-◌, eqb, ltb, leb, length, take, drop, get_or, replicate, Option, Some, None, if◌then◌else◌}
 use Rattle.laws.specs.BigEndian.{number, number2}
 use Rattle.laws.specs.Choice.{◌and◌, ◌or◌}
 use Rattle.basics.specs.Bytes.{same}
-use Rattle.key_based.specs.declared.Element.{Element}
 use Rattle.pairing.specs.Pairing.{PairingStarted, ConfirmationNeeded, PasskeyWrite, PairingEnded, AccountKeyWrite, NameWrite}
 use Rattle.provider.specs.Rules.Event.{Event, Overflow, PowerOn, OnDevice, OnLink, PairingMode, AddressRotated, FactoryReset, LinkEvent, LinkUp, LinkDown, KeyBasedWrite, OnSession}
 use Rattle.provider.specs.declared.Start.{Start}
 use Rattle.recording.specs.Layout.{kind_byte}
 use Rattle.recording.specs.declared.Kind.{Kind}
 use Rattle.recording.specs.declared.Kind.TheVariants as kind
+use Rattle.recording.specs.declared.UnknownKind.{UnknownKind}
 use Rattle.recording.specs.declared.reader.Next.{Next}
 use Rattle.recording.specs.declared.reader.Next.TheVariants.{Record, Cut, End}
 
@@ -40,6 +40,10 @@ kinds =
 
 abbrev pub kind_in : ℕ → Kind
 kind_in b = kind_among b kinds
+
+-- what the decoding of a kind byte gives: the kind whose byte it is, or an error with a byte that is no kind's
+abbrev pub DecodesKind : ℕ → Result Kind UnknownKind → Type 0
+DecodesKind b r = MatchResult r (λ k. kind_byte k ≡ b) (λ e. (e.0 ≡ b) × ((k : Kind) → kind_byte k ≡ b → ⊥))
 
 -- n bytes from a place on, and the number that they stand for
 abbrev pub part : ℕ → ℕ → List ℕ → List ℕ
@@ -80,13 +84,19 @@ read_power_on r =
     or_marker (leb (21 + list_length r) (length r))
     (PowerOn (part 4 (list_length r) r) (drop (21 + list_length r) r) (start_at (4 + list_length r) r))
 
--- key-based write: 66 bytes stand behind the request
-abbrev pub element_at : ℕ → List ℕ → Element
-element_at at r = record { accepted = eqb (get_or r at 0) 1; secret = part (at + 1) 32 r }
+-- key-based write: 66 bytes stand behind the request. A rejected point has no secret
+abbrev pub secret_if : Bool → List ℕ → Option (List ℕ)
+secret_if accepted secret = if accepted then Some secret else None
+
+abbrev pub element_at : ℕ → List ℕ → Option (List ℕ)
+element_at at r = secret_if (eqb (get_or r at 0) 1) (part (at + 1) 32 r)
 
 -- "If the point was rejected, 32 zero bytes stand for the secret"
-abbrev pub is_element : Element → Bool
-is_element e = e.accepted or same e.secret (zeros 32)
+abbrev pub is_element : Bool → List ℕ → Bool
+is_element accepted secret = accepted or same secret (zeros 32)
+
+abbrev pub is_element_at : ℕ → List ℕ → Bool
+is_element_at at r = is_element (eqb (get_or r at 0) 1) (part (at + 1) 32 r)
 
 abbrev pub key_based_fields : ℕ → List ℕ → LinkEvent
 key_based_fields at r =
@@ -96,7 +106,7 @@ key_based_fields at r =
 unfoldable pub read_key_based_write : List ℕ → Event
 read_key_based_write r =
     or_marker
-    (leb 77 (length r) and is_flag (get_or r (length r - 66) 0) and is_element (element_at (length r - 66) r))
+    (leb 77 (length r) and is_flag (get_or r (length r - 66) 0) and is_element_at (length r - 66) r)
     (link_event r (key_based_fields (length r - 66) r))
 
 -- passkey write: 20 bytes stand behind the block

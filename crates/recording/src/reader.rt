@@ -5,7 +5,7 @@ ghost use Rattle.laws.specs.BigEndian.{number2};
 ghost use Rattle.recording.specs.Reading as reading;
 
 // What stands at a place of a recording.
-#[derive(Clone, Copy)]
+#[derive(Clone, Copy, PartialEq, Eq)]
 pub enum Next {
     // a whole record: the place of its first byte after the length field, and the place behind its last
     Record(usize, usize),
@@ -17,31 +17,27 @@ pub enum Next {
 pub fn next_at(recording: &[u8], at: usize) -> Next
     ensures { result ≡ reading.next_at recording.now at }
 {
-    if recording.len() <= at {
+    let Some(left) = recording.get(at..) else {
         return Next::End;
+    };
+    match left {
+        [] => Next::End,
+        [_] => Next::Cut,
+        [high, low, rest @ ..] => {
+            let length = size(*high, *low);
+            if rest.len() < length {
+                return Next::Cut;
+            }
+            Next::Record(at + 2, at + 2 + length)
+        }
     }
-    let left = recording.len() - at;
-    if left < 2 {
-        return Next::Cut;
-    }
-    let length = size(recording[at], recording[at + 1]);
-    if left - 2 < length {
-        return Next::Cut;
-    }
-    Next::Record(at + 2, at + 2 + length)
 }
 
 // What a length field says: how many bytes of the record follow it.
 pub fn size(high: u8, low: u8) -> usize
     ensures { (result ≡ number2 high low) × (result < 2 ^ 16) }
 {
-    wide(high) * 0x100 + wide(low)
-}
-
-fn wide(byte: u8) -> usize
-    ensures { (result ≡ byte) × (result < 256) }
-{
-    byte as usize
+    usize::from(u16::from_be_bytes([high, low]))
 }
 
 // The place behind what stands there. A cut record is the last: the end of the recording is behind it.
@@ -62,26 +58,29 @@ pub struct Reader<'a> {
     pub at: usize,
 }
 
-pub fn start<'a>(recording: &'a [u8]) -> Reader<'a>
-    ensures { (result.recording ≡ recording.entry) × (result.at ≡ 0) }
-{
-    Reader { recording, at: 0 }
-}
+impl<'a> Reader<'a> {
+    // A reader at the start of a recording.
+    pub fn new(recording: &'a [u8]) -> Reader<'a>
+        ensures { (result.recording ≡ recording.entry) × (result.at ≡ 0) }
+    {
+        Reader { recording, at: 0 }
+    }
 
-// What stands where the reader stands.
-pub fn next_of<'a>(reader: Reader<'a>) -> Next
-    ensures { result ≡ reading.next_at reader.entry.recording.now reader.entry.at }
-{
-    next_at(reader.recording, reader.at)
-}
+    // What stands where the reader stands.
+    pub fn next(self) -> Next
+        ensures { result ≡ reading.next_at self.entry.recording.now self.entry.at }
+    {
+        next_at(self.recording, self.at)
+    }
 
-// The reader behind what stands there.
-pub fn moved<'a>(reader: Reader<'a>) -> Reader<'a>
-    ensures { (result.recording ≡ reader.entry.recording) × (result.at ≡ reading.place_after reader.entry.recording.now reader.entry.at) }
-{
-    Reader {
-        recording: reader.recording,
-        at: after_at(reader.recording, reader.at),
+    // The reader behind what stands there.
+    pub fn moved(self) -> Reader<'a>
+        ensures { (result.recording ≡ self.entry.recording) × (result.at ≡ reading.place_after self.entry.recording.now self.entry.at) }
+    {
+        Reader {
+            at: after_at(self.recording, self.at),
+            ..self
+        }
     }
 }
 
@@ -89,5 +88,5 @@ pub fn moved<'a>(reader: Reader<'a>) -> Reader<'a>
 pub fn first(recording: &[u8]) -> Next
     ensures { result ≡ reading.next_at recording.now 0 }
 {
-    next_of(start(recording))
+    Reader::new(recording).next()
 }

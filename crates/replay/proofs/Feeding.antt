@@ -20,7 +20,7 @@ use Rattle.recording.specs.declared.reader.Next.TheVariants.{Record, Cut, End}
 use Rattle.replay.specs.Parts.{waits, fed_line, fed_of, fed, ended}
 use Rattle.replay.specs.Replay.{shown}
 use Rattle.replay.specs.declared.parts.Fed.{Fed}
-use Rattle.replay.specs.declared.parts.Printed.TheVariants.{Nothing, One}
+use Rattle.std.specs.Prelude.{Some, None}
 use Rattle.replay.specs.declared.parts.Stream.{Stream}
 use Rattle.replay.specs.declared.Shown.{Shown}
 
@@ -183,11 +183,11 @@ module _ (s : Stream) (bs : List ℕ) (at : ℕ) (o : Open s.unfinished) (whole 
 
 -- ---- the end of the recording
 
-pub ended_whole : (s : Stream) → is_cut s.unfinished ≡ false → record { next = s; line = Nothing } ≡ ended s
+pub ended_whole : (s : Stream) → is_cut s.unfinished ≡ false → record { next = s; line = None } ≡ ended s
 unfolding ended
 ended_whole s e = rw e
 
 pub ended_cut : (s : Stream) {x : Shown} {u : Unfinished} → is_cut s.unfinished ≡ true → x ≡ shown s.replay Overflow → u ≡ none
-    → record { next = record { replay = x.next; unfinished = u }; line = One x.line } ≡ ended s
+    → record { next = record { replay = x.next; unfinished = u }; line = Some x.line } ≡ ended s
 unfolding ended
-ended_cut s e p q = (λ i. record { next = record { replay = (p i).next; unfinished = q i }; line = One (p i).line }) ∙ rw e
+ended_cut s e p q = (λ i. record { next = record { replay = (p i).next; unfinished = q i }; line = Some (p i).line }) ∙ rw e

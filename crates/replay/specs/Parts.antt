@@ -9,7 +9,7 @@ use Rattle.recording.specs.Reading.{divide, event_in}
 use Rattle.replay.specs.Replay.{start, shown}
 use Rattle.replay.specs.declared.parts.Ended.{Ended}
 use Rattle.replay.specs.declared.parts.Fed.{Fed}
-use Rattle.replay.specs.declared.parts.Printed.TheVariants.{Nothing, One}
+use Rattle.std.specs.Prelude.{Some, None}
 use Rattle.replay.specs.declared.parts.Stream.{Stream}
 use Rattle.replay.specs.declared.Shown.{Shown}
 
@@ -28,10 +28,10 @@ behind_event x = record { replay = x.next; unfinished = none }
 
 -- no record has ended, and this much is held
 abbrev pub waits : Stream → Unfinished → ℕ → Fed
-waits s u at = record { next = record { replay = s.replay; unfinished = u }; at = at; line = Nothing }
+waits s u at = record { next = record { replay = s.replay; unfinished = u }; at = at; line = None }
 
 abbrev pub fed_line : Shown → ℕ → Fed
-fed_line x at = record { next = behind_event x; at = at; line = One x.line }
+fed_line x at = record { next = behind_event x; at = at; line = Some x.line }
 
 -- one step: the line of the first record that is whole, or none if the part ends before
 abbrev pub fed_of : Stream → List ℕ → ℕ → List (List ℕ) → Fed
@@ -46,5 +46,5 @@ fed s part at = fed_of s part at (divide (ahead s.unfinished part at)).whole
 unfoldable pub ended : Stream → Ended
 ended s =
     if is_cut s.unfinished
-    then record { next = behind_event (shown s.replay Overflow); line = One (shown s.replay Overflow).line }
-    else record { next = s; line = Nothing }
+    then record { next = behind_event (shown s.replay Overflow); line = Some (shown s.replay Overflow).line }
+    else record { next = s; line = None }

@@ -1,8 +1,8 @@
 -- What is promised of the replay.
 -- Assumes nothing.
 use Rattle.std.specs.Prelude.{◌≡◌, ℕ, zero, suc, ◌<◌, ◌≤◌, List, [], ◌∷◌, ◌++◌, map, length, take}
+use Rattle.std.specs.Result.{IsOk, result_unwrap_or}
 use Rattle.laws.specs.Lists.{All}
-use Rattle.basics.specs.Answers.{answer_number}
 use Rattle.basics.specs.declared.Answer.TheVariants.{Taken}
 use Rattle.provider.specs.Demands.Validity.{Valid}
 use Rattle.provider.specs.Rules.Event.{Event, PowerOn, step, next, answer_of}
@@ -17,8 +17,7 @@ use Rattle.replay.specs.Parts.{start_stream, Ready, fed, ended}
 use Rattle.replay.specs.Replay.{one_more, shown, start, lines, after_events}
 use Rattle.replay.specs.declared.Line.{Line}
 use Rattle.replay.specs.declared.Replay.{Replay}
-use Rattle.replay.specs.declared.parts.Printed.{Printed}
-use Rattle.replay.specs.declared.parts.Printed.TheVariants.{Nothing, One}
+use Rattle.std.specs.Prelude.{Option, Some, None}
 use Rattle.replay.specs.declared.parts.Stream.{Stream}
 
 -- "one line for each event": any bytes at all give lines
@@ -44,11 +43,11 @@ pub record Call : Type 0 where
 -- "the writer took every event"
 pub record Took (c : Call) : Type 0 where
   pub sized : Fits c.event
-  pub taken : (record_report c.event c.out).answer ≡ Taken
+  pub taken : IsOk (record_report c.event c.out)
 
 -- the bytes that it wrote
 abbrev pub record_left : Call → List ℕ
-record_left c = take (record_report c.event c.out).length (record_placed c.event c.out)
+record_left c = take (result_unwrap_or (record_report c.event c.out) 0) (record_placed c.event c.out)
 
 abbrev pub recording_of : List Call → List ℕ
 recording_of [] = []
@@ -61,7 +60,7 @@ lines_given n d (c ∷ cs) =
     record {
       number = one_more n;
       kind = kind_of c.event;
-      answer = answer_number (answer_of d c.event);
+      answer = answer_of d c.event;
       size = (next d c.event).keys.count;
     }
     ∷ lines_given (one_more n) (next d c.event) cs
@@ -100,9 +99,9 @@ pub record Lines : Type 0 where
   pub lines : List Line
   pub next : Stream
 
-abbrev pub line_then : Printed → Stream → Lines → Lines
-line_then Nothing s later = record { lines = []; next = s }
-line_then (One l) s later = record { lines = l ∷ later.lines; next = later.next }
+abbrev pub line_then : Option Line → Stream → Lines → Lines
+line_then None s later = record { lines = []; next = s }
+line_then (Some l) s later = record { lines = l ∷ later.lines; next = later.next }
 
 -- a part from a place on, step by step as long as lines come; each takes a byte and more, so that `fuel` of one more than the part's
 -- length is enough
@@ -128,9 +127,9 @@ abbrev pub EmptyPartKeeps : Type 0
 EmptyPartKeeps = (s : Stream) → Ready s → fed_part s [] ≡ record { lines = []; next = s }
 
 -- the line of a cut record
-abbrev pub line_of : Printed → List Line
-line_of Nothing = []
-line_of (One l) = l ∷ []
+abbrev pub line_of : Option Line → List Line
+line_of None = []
+line_of (Some l) = l ∷ []
 
 abbrev pub joined_parts : List (List ℕ) → List ℕ
 joined_parts [] = []

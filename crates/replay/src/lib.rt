@@ -29,7 +29,7 @@ pub struct Replay {
 pub struct Line {
     pub number: u64,
     pub kind: Kind,
-    pub answer: u8,
+    pub answer: Answer,
     // how many keys the list holds
     pub size: usize,
 }
@@ -57,8 +57,7 @@ impl Replay {
         requires { Valid self.device }
         ensures { result ≡ spec.shown self (event_in «record».now) }
     {
-        let device = self.device;
-        self.shown(replay_events::play(device, record))
+        self.shown(replay_events::play(self.device, record))
     }
 
     // A record that the end of the recording cuts is a marker.
@@ -66,24 +65,21 @@ impl Replay {
         requires { Valid self.device }
         ensures { result ≡ spec.shown self Overflow }
     {
-        let device = self.device;
-        self.shown(replay_events::marker(device))
+        self.shown(replay_events::marker(self.device))
     }
 
     // The line of an event that was played on the device, and the replay behind it.
+    #[tactic(auto, unfolding(crate::specs::Replay::shown_of))]
     fn shown(self, played: Played) -> Shown
         ensures { result ≡ spec.shown_of self played }
     {
-        let number = std::num::wrapping_add_u64(self.number, 1);
-        let kind = played.kind;
-        let outcome = played.outcome;
-        let reply = outcome.reply;
-        let answer = reply.answer;
-        if has_device(self.started, kind, answer) {
-            return answered(number, kind, outcome);
+        let number = self.number.wrapping_add(1);
+        let Played { kind, outcome } = played;
+        if has_device(self.started, kind, outcome.reply.answer) {
+            answered(number, kind, outcome)
+        } else {
+            refused(number, kind, self.device)
         }
-        let device = self.device;
-        refused(number, kind, device)
     }
 }
 
@@ -91,50 +87,43 @@ impl Replay {
 fn has_device(started: bool, kind: Kind, answer: Answer) -> bool
     ensures { result ≡ spec.has_device started kind answer }
 {
-    if started {
-        return true;
-    }
-    if kind.byte() != 0x06 {
-        return false;
-    }
-    answer.is_taken()
+    started || (kind == Kind::PowerOn && answer.is_taken())
 }
 
+#[tactic(auto, unfolding(crate::specs::Replay::answered))]
 fn answered(number: u64, kind: Kind, outcome: Outcome) -> Shown
     ensures { result ≡ spec.answered number kind outcome }
 {
-    let device = outcome.next;
-    let reply = outcome.reply;
-    let answer = reply.answer;
     Shown {
         next: Replay {
             started: true,
-            number: number,
-            device: device,
+            number,
+            device: outcome.next,
         },
         line: Line {
-            number: number,
-            kind: kind,
-            answer: answer.number(),
-            size: device.keys.count,
+            number,
+            kind,
+            answer: outcome.reply.answer,
+            size: outcome.next.keys.count,
         },
     }
 }
 
-// Before the first power-on that is taken: what the event came to is not taken over.
+// Before the first power-on that is taken: what the event came to is not taken over, and the answer is that there is no list.
+#[tactic(auto, unfolding(crate::specs::Replay::refused))]
 fn refused(number: u64, kind: Kind, device: Device) -> Shown
     ensures { result ≡ spec.refused number kind device }
 {
     Shown {
         next: Replay {
             started: false,
-            number: number,
-            device: device,
+            number,
+            device,
         },
         line: Line {
-            number: number,
-            kind: kind,
-            answer: 14,
+            number,
+            kind,
+            answer: Answer::ListMalformed,
             size: 0,
         },
     }

@@ -20,26 +20,19 @@ pub struct Stream {
     pub unfinished: Unfinished,
 }
 
-// A line, or none.
-#[derive(Clone, Copy)]
-pub enum Printed {
-    Nothing,
-    One(Line),
-}
-
-// The next stream, the place where the part is read on, and the line of the record that ended.
+// The next stream, the place where the part is read on, and the line of the record that ended, if one did.
 #[derive(Clone, Copy)]
 pub struct Fed {
     pub next: Stream,
     pub at: usize,
-    pub line: Printed,
+    pub line: Option<Line>,
 }
 
-// The stream behind the end of a recording, and the line of a cut record.
+// The stream behind the end of a recording, and the line of a cut record, if there was one.
 #[derive(Clone, Copy)]
 pub struct Ended {
     pub next: Stream,
-    pub line: Printed,
+    pub line: Option<Line>,
 }
 
 impl Stream {
@@ -57,39 +50,35 @@ impl Stream {
         requires { Ready self }
         ensures { result ≡ spec.fed self part.now at }
     {
-        let unfinished = self.unfinished;
-        if unfinished.is_cut() {
+        if self.unfinished.is_cut() {
             return self.read_on(part, at);
         }
         match reader::next_at(part, at) {
             Next::Record(start, end) => self.shown(&part[start..end], end),
             Next::Cut => self.waits(Unfinished::begin(part, at), part.len()),
-            Next::End => self.waits(unfinished, at),
+            Next::End => self.waits(self.unfinished, at),
         }
     }
 
     // The end of the recording: what is held is a cut record, which is a marker.
+    #[tactic(auto, unfolding(crate::specs::Parts::ended))]
     pub fn end(self) -> Ended
         requires { Ready self }
         ensures { result ≡ spec.ended self }
     {
-        let unfinished = self.unfinished;
-        if !unfinished.is_cut() {
+        if !self.unfinished.is_cut() {
             return Ended {
                 next: self,
-                line: Printed::Nothing,
+                line: None,
             };
         }
-        let replay = self.replay;
-        let shown = replay.show_cut();
-        let next = shown.next;
-        let line = shown.line;
+        let Shown { next, line } = self.replay.show_cut();
         Ended {
             next: Stream {
                 replay: next,
                 unfinished: Unfinished::none(),
             },
-            line: Printed::One(line),
+            line: Some(line),
         }
     }
 
@@ -98,16 +87,10 @@ impl Stream {
         requires { Ready self × (is_cut self.unfinished ≡ true) }
         ensures { result ≡ spec.fed self part.now at }
     {
-        let unfinished = self.unfinished;
-        let taken = unfinished.read_on(part, at);
-        let next = taken.next;
-        let found = taken.found;
-        match found {
-            Found::Nothing => self.waits(next, taken.at),
-            Found::Held(end) => {
-                let bytes = next.bytes;
-                self.shown(&bytes[2..end], taken.at)
-            }
+        let taken = self.unfinished.read_on(part, at);
+        match taken.found {
+            Found::Nothing => self.waits(taken.next, taken.at),
+            Found::Held(end) => self.shown(&taken.next.bytes[2..end], taken.at),
             Found::TooLong => self.skipped(taken.at),
         }
     }
@@ -116,14 +99,10 @@ impl Stream {
     fn waits(self, unfinished: Unfinished, at: usize) -> Fed
         ensures { result ≡ spec.waits self unfinished at }
     {
-        let replay = self.replay;
         Fed {
-            next: Stream {
-                replay: replay,
-                unfinished: unfinished,
-            },
-            at: at,
-            line: Printed::Nothing,
+            next: Stream { unfinished, ..self },
+            at,
+            line: None,
         }
     }
 
@@ -132,8 +111,7 @@ impl Stream {
         requires { Valid self.replay.device }
         ensures { result ≡ spec.fed_line (shown self.replay (event_in «record».now)) at }
     {
-        let replay = self.replay;
-        fed_line(replay.show(record), at)
+        fed_line(self.replay.show(record), at)
     }
 
     // A record has ended that was too long.
@@ -141,8 +119,7 @@ impl Stream {
         requires { Valid self.replay.device }
         ensures { result ≡ spec.fed_line (shown self.replay Overflow) at }
     {
-        let replay = self.replay;
-        fed_line(replay.show_cut(), at)
+        fed_line(self.replay.show_cut(), at)
     }
 }
 
@@ -150,14 +127,13 @@ impl Stream {
 fn fed_line(shown: Shown, at: usize) -> Fed
     ensures { result ≡ spec.fed_line shown at }
 {
-    let next = shown.next;
-    let line = shown.line;
+    let Shown { next, line } = shown;
     Fed {
         next: Stream {
             replay: next,
             unfinished: Unfinished::none(),
         },
-        at: at,
-        line: Printed::One(line),
+        at,
+        line: Some(line),
     }
 }

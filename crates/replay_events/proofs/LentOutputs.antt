@@ -10,58 +10,45 @@ use lib.Dec.{ltb}
 use lib.ListN.{length, take, length-replicate}
 use lib.Seq.{length-take-le}
 use borrow.Author.Tests.{lt-ltb, le-ltb, ltb-true, ltb-false}
-use Rattle.std.specs.Prelude.{if◌then◌else◌}
-use Rattle.basics.specs.Answers.{is_taken}
+use Rattle.std.specs.Prelude.{if◌then◌else◌, Result, Ok, Err, Option}
 use Rattle.basics.specs.declared.Answer.{Answer}
-use Rattle.basics.specs.declared.Answer.TheVariants.{UnknownLink, WrongLength, ClockWentBack}
+use Rattle.basics.specs.declared.Answer.TheVariants.{WrongLength}
 use Rattle.key_based.specs.Request.{sized}
-use Rattle.key_based.specs.declared.Element.{Element}
 use Rattle.pairing.specs.Pairing.{PasskeyWrite}
-use Rattle.provider.specs.Rules.Device.{Effect, answers, drop_all, clock_step, in_time, on_known_link}
+use Rattle.provider.specs.Rules.Device.{Effect, after_checks, on_known_link}
 use Rattle.provider.specs.Rules.Event.{OnLink, KeyBasedWrite, OnSession, response_room, outputs_room, on_link, step}
 use Rattle.provider.specs.declared.Device.{Device}
+use Rattle.provider.specs.declared.Outcome.{Outcome}
 use Rattle.recording.specs.Reading.{zeros}
 
 -- ---- the same write with other outputs
 
 module _ (d : Device) (l t : ℕ) where
-  -- the checks of an event on a link give the same, whatever the outputs, if what comes after them does
-  pub checks_give : (early : Answer) (outs outs' : List (List ℕ)) (rest rest' : Device → Effect)
+  -- what comes after the checks of an event gives the same, whatever the outputs, if it does on every device
+  pub checks_give : (checked : Result Device Outcome) (outs outs' : List (List ℕ)) (rest rest' : Device → Effect)
       → ((x : Device) → (rest x).gives ≡ (rest' x).gives)
-      → (on_known_link d l t early outs rest).gives ≡ (on_known_link d l t early outs' rest').gives
-  unfolding on_known_link in_time
-  checks_give early outs outs' rest rest' h = go (ltb 7 l) (is_taken early) (ltb t d.clock.0)
-    where
-      go : (unknown passed back : Bool)
-          → (if unknown then answers d UnknownLink outs else
-          if not passed then answers d early outs else
-          if back then answers (drop_all d) ClockWentBack outs else rest (clock_step t d)).gives
-          ≡ (if unknown then answers d UnknownLink outs' else
-          if not passed then answers d early outs' else
-          if back then answers (drop_all d) ClockWentBack outs' else rest' (clock_step t d)).gives
-      go true passed back = refl
-      go false false back = refl
-      go false true true = refl
-      go false true false = h (clock_step t d)
+      → (after_checks checked outs rest).gives ≡ (after_checks checked outs' rest').gives
+  checks_give (Ok x) outs outs' rest rest' h = h x
+  checks_give (Err o) outs outs' rest rest' h = refl
 
   pub passkey_write_gives : (block salt out out' : List ℕ) → response_room (length out) ≡ response_room (length out')
       → (step d (OnLink l t (OnSession (PasskeyWrite block salt out)))).gives
       ≡ (step d (OnLink l t (OnSession (PasskeyWrite block salt out')))).gives
   passkey_write_gives block salt out out' e =
       let rest : List ℕ → Device → Effect = λ o x. on_link (OnSession (PasskeyWrite block salt o)) x l t in
-      checks_give (response_room (length out)) (out ∷ []) (out' ∷ []) (rest out) (rest out') (λ x. refl)
-      ∙ ap (λ (a : Answer). (on_known_link d l t a (out' ∷ []) (rest out')).gives) e
+      checks_give (on_known_link d l t (response_room (length out))) (out ∷ []) (out' ∷ []) (rest out) (rest out') (λ x. refl)
+      ∙ ap (λ (a : Result Unit Answer). (after_checks (on_known_link d l t a) (out' ∷ []) (rest out')).gives) e
 
-  pub key_based_write_gives : (request : List ℕ) (element : Element) (salt nonce out packet out' packet' : List ℕ)
+  pub key_based_write_gives : (request : List ℕ) (element : Option (List ℕ)) (salt nonce out packet out' packet' : List ℕ)
       → outputs_room (length out) (length packet) ≡ outputs_room (length out') (length packet')
       → (step d (OnLink l t (KeyBasedWrite request element salt nonce out packet))).gives
       ≡ (step d (OnLink l t (KeyBasedWrite request element salt nonce out' packet'))).gives
   key_based_write_gives request element salt nonce out packet out' packet' e =
-      let early : Answer → Answer = λ a. if not (sized request) then WrongLength else a in
+      let early : Result Unit Answer → Result Unit Answer = λ a. if not (sized request) then Err WrongLength else a in
       let rest : List ℕ → List ℕ → Device → Effect = λ o p x. on_link (KeyBasedWrite request element salt nonce o p) x l t in
-      checks_give (early (outputs_room (length out) (length packet))) (out ∷ packet ∷ []) (out' ∷ packet' ∷ [])
+      checks_give (on_known_link d l t (early (outputs_room (length out) (length packet)))) (out ∷ packet ∷ []) (out' ∷ packet' ∷ [])
       (rest out packet) (rest out' packet') (λ x. refl)
-      ∙ ap (λ (a : Answer). (on_known_link d l t (early a) (out' ∷ packet' ∷ []) (rest out' packet')).gives) e
+      ∙ ap (λ (a : Result Unit Answer). (after_checks (on_known_link d l t (early a)) (out' ∷ packet' ∷ []) (rest out' packet')).gives) e
 
 -- ---- an output of the length that was recorded, and one no longer than is asked for
 

@@ -1,100 +1,61 @@
-// The fields of a record, read from their places. Rattle has no generics, so each size has a function of its own.
-ghost use Rattle.std.specs.Prelude.{◌≡◌, ◌+◌, ◌≤◌, length};
-ghost use Rattle.recording.specs.Reading.{number_at, part};
+// The fields of a record, taken off its front.
+ghost use Rattle.std.specs.Prelude.{MatchOption, true, false, eqb, ◌≡◌, ◌<◌, ◌≤◌, min, length, drop, get_or};
+ghost use Rattle.recording.specs.Reading.{number_at, is_flag};
 
-use basics::{Address, Moment};
+use basics::{Link, Moment};
 
-// The number that `size` bytes stand for.
-pub fn number(record: &[u8], at: usize, size: usize) -> u64
-    requires { (at + size ≤ length «record».now) × (size ≤ 8) }
-    ensures { result ≡ number_at at size «record».now }
+// Link and clock of an event on a link, and the fields behind them.
+pub fn on_link(record: &[u8]) -> Option<(Link, Moment, &[u8])>
+    ensures { MatchOption result
+        (length «record».now < 11)
+        (λ e. (11 ≤ length «record».now) × (e.0.0 ≡ get_or «record».now 2 0) × (e.1.0 ≡ number_at 3 8 «record».now) × (e.2.now ≡ drop 11 «record».now)) }
 {
-    let end = at + size;
-    recording::bytes::number(&record[at..end])
+    let [_, _, link, rest @ ..] = record else {
+        return None;
+    };
+    let (clock, fields) = rest.split_first_chunk()?;
+    Some((Link(*link), Moment(u64::from_be_bytes(*clock)), fields))
 }
 
-pub fn clock(record: &[u8], at: usize) -> Moment
-    requires { at + 8 ≤ length «record».now }
-    ensures { result.0 ≡ number_at at 8 «record».now }
+// The clock of an event on no link, and the fields behind it.
+pub fn on_device(record: &[u8]) -> Option<(Moment, &[u8])>
+    ensures { MatchOption result
+        (length «record».now < 10)
+        (λ e. (10 ≤ length «record».now) × (e.0.0 ≡ number_at 2 8 «record».now) × (e.1.now ≡ drop 10 «record».now)) }
 {
-    Moment(number(record, at, 8))
+    let [_, _, rest @ ..] = record else {
+        return None;
+    };
+    let (clock, fields) = rest.split_first_chunk()?;
+    Some((Moment(u64::from_be_bytes(*clock)), fields))
 }
 
-pub fn address(record: &[u8], at: usize) -> Address
-    requires { at + 6 ≤ length «record».now }
-    ensures { result.bytes ≡ part at 6 «record».now }
+// The one byte that the fields are; None if there are none or more.
+pub fn only(fields: &[u8]) -> Option<u8>
+    ensures { MatchOption result
+        (length fields.now ≡ 1 → ⊥)
+        (λ b. (length fields.now ≡ 1) × (b ≡ get_or fields.now 0 0)) }
 {
-    Address {
-        bytes: six(record, at),
+    match fields {
+        [byte] => Some(*byte),
+        _ => None,
     }
 }
 
-pub fn two(record: &[u8], at: usize) -> [u8; 2]
-    requires { at + 2 ≤ length «record».now }
-    ensures { result ≡ part at 2 «record».now }
+// A flag; None for a byte that is none.
+pub fn flag(byte: u8) -> Option<bool>
+    ensures { MatchOption result (is_flag byte ≡ false) (λ on. (is_flag byte ≡ true) × (on ≡ eqb byte 1)) }
 {
-    let end = at + 2;
-    let mut bytes = [0u8; 2];
-    basics::copy(&mut bytes, 0, &record[at..end]);
-    bytes
+    match byte {
+        0 => Some(false),
+        1 => Some(true),
+        _ => None,
+    }
 }
 
-pub fn three(record: &[u8], at: usize) -> [u8; 3]
-    requires { at + 3 ≤ length «record».now }
-    ensures { result ≡ part at 3 «record».now }
+// How much of an output is lent: the length that was recorded, and at most `most`.
+pub fn lent(recorded: u64, most: usize) -> usize
+    ensures { result ≡ min recorded most }
 {
-    let end = at + 3;
-    let mut bytes = [0u8; 3];
-    basics::copy(&mut bytes, 0, &record[at..end]);
-    bytes
-}
-
-pub fn six(record: &[u8], at: usize) -> [u8; 6]
-    requires { at + 6 ≤ length «record».now }
-    ensures { result ≡ part at 6 «record».now }
-{
-    let end = at + 6;
-    let mut bytes = [0u8; 6];
-    basics::copy(&mut bytes, 0, &record[at..end]);
-    bytes
-}
-
-pub fn eight(record: &[u8], at: usize) -> [u8; 8]
-    requires { at + 8 ≤ length «record».now }
-    ensures { result ≡ part at 8 «record».now }
-{
-    let end = at + 8;
-    let mut bytes = [0u8; 8];
-    basics::copy(&mut bytes, 0, &record[at..end]);
-    bytes
-}
-
-pub fn nine(record: &[u8], at: usize) -> [u8; 9]
-    requires { at + 9 ≤ length «record».now }
-    ensures { result ≡ part at 9 «record».now }
-{
-    let end = at + 9;
-    let mut bytes = [0u8; 9];
-    basics::copy(&mut bytes, 0, &record[at..end]);
-    bytes
-}
-
-pub fn twelve(record: &[u8], at: usize) -> [u8; 12]
-    requires { at + 12 ≤ length «record».now }
-    ensures { result ≡ part at 12 «record».now }
-{
-    let end = at + 12;
-    let mut bytes = [0u8; 12];
-    basics::copy(&mut bytes, 0, &record[at..end]);
-    bytes
-}
-
-pub fn thirty_two(record: &[u8], at: usize) -> [u8; 32]
-    requires { at + 32 ≤ length «record».now }
-    ensures { result ≡ part at 32 «record».now }
-{
-    let end = at + 32;
-    let mut bytes = [0u8; 32];
-    basics::copy(&mut bytes, 0, &record[at..end]);
-    bytes
+    recorded.min(most as u64) as usize
 }

@@ -3,16 +3,15 @@
 
 mod fields;
 
-ghost use Rattle.std.specs.Prelude.{◌≡◌, ◌+◌, ◌≤◌, min, length};
+ghost use Rattle.std.specs.Prelude.{MatchOption, true, false, ◌≡◌};
 ghost use Rattle.provider.specs.Demands.Validity.{Valid};
 ghost use Rattle.provider.specs.Rules.Event.{Overflow};
 ghost use Rattle.recording.specs.Reading as reading;
 ghost use Rattle.recording.specs.Reading.{event_in, read_as, read_power_on, read_key_based_write, read_passkey_write};
 ghost use Rattle.recording.specs.declared.Kind.TheVariants as kinds;
-ghost use Rattle.replay_events.specs.Played.{played};
+ghost use Rattle.replay_events.specs.Played.{played, outcome_of};
 
-use basics::Link;
-use key_based::Element;
+use basics::{Address, part};
 use provider::{Device, Identity, Outcome, Start};
 use recording::Kind;
 
@@ -32,8 +31,30 @@ pub fn play(device: Device, record: &[u8]) -> Played
     requires { Valid device }
     ensures { result ≡ played device (event_in «record».now) }
 {
-    match recording::read_kind(record) {
-        Kind::Marker => marker(device),
+    let kind = recording::read_kind(record);
+    match outcome(&device, kind, record) {
+        Some(outcome) => Played { kind, outcome },
+        None => marker(device),
+    }
+}
+
+pub fn marker(device: Device) -> Played
+    requires { Valid device }
+    ensures { result ≡ played device Overflow }
+{
+    Played {
+        kind: Kind::Marker,
+        outcome: device.overflow(),
+    }
+}
+
+// The outcome of a record of this kind; None if it has fields of the wrong size, or a value that no event has.
+fn outcome(device: &Device, kind: Kind, record: &[u8]) -> Option<Outcome>
+    requires { Valid device.now }
+    ensures { result ≡ outcome_of device.now (read_as kind «record».now) }
+{
+    match kind {
+        Kind::Marker => None,
         Kind::LinkUp => link_up(device, record),
         Kind::LinkDown => link_down(device, record),
         Kind::PairingMode => pairing_mode(device, record),
@@ -50,303 +71,181 @@ pub fn play(device: Device, record: &[u8]) -> Played
     }
 }
 
-pub fn marker(device: Device) -> Played
-    requires { Valid device }
-    ensures { result ≡ played device Overflow }
+fn link_up(device: &Device, record: &[u8]) -> Option<Outcome>
+    requires { Valid device.now }
+    ensures { result ≡ outcome_of device.now (read_as kinds.LinkUp «record».now) }
 {
-    let outcome = device.overflow();
-    Played {
-        kind: Kind::Marker,
-        outcome: outcome,
-    }
+    let (link, clock, fields) = fields::on_link(record)?;
+    let [] = fields else {
+        return None;
+    };
+    Some(device.link_up(link, clock))
 }
 
-fn link_up(device: Device, record: &[u8]) -> Played
-    requires { Valid device }
-    ensures { result ≡ played device (read_as kinds.LinkUp «record».now) }
+fn link_down(device: &Device, record: &[u8]) -> Option<Outcome>
+    requires { Valid device.now }
+    ensures { result ≡ outcome_of device.now (read_as kinds.LinkDown «record».now) }
 {
-    if record.len() != 11 {
-        return marker(device);
-    }
-    let link = Link(record[2]);
-    let clock = fields::clock(record, 3);
-    Played {
-        kind: Kind::LinkUp,
-        outcome: device.link_up(link, clock),
-    }
+    let (link, clock, fields) = fields::on_link(record)?;
+    let [] = fields else {
+        return None;
+    };
+    Some(device.link_down(link, clock))
 }
 
-fn link_down(device: Device, record: &[u8]) -> Played
-    requires { Valid device }
-    ensures { result ≡ played device (read_as kinds.LinkDown «record».now) }
+fn pairing_mode(device: &Device, record: &[u8]) -> Option<Outcome>
+    requires { Valid device.now }
+    ensures { result ≡ outcome_of device.now (read_as kinds.PairingMode «record».now) }
 {
-    if record.len() != 11 {
-        return marker(device);
-    }
-    let link = Link(record[2]);
-    let clock = fields::clock(record, 3);
-    Played {
-        kind: Kind::LinkDown,
-        outcome: device.link_down(link, clock),
-    }
+    let (clock, fields) = fields::on_device(record)?;
+    let on = fields::flag(fields::only(fields)?)?;
+    Some(device.pairing_mode(on, clock))
 }
 
-fn pairing_mode(device: Device, record: &[u8]) -> Played
-    requires { Valid device }
-    ensures { result ≡ played device (read_as kinds.PairingMode «record».now) }
+fn address_rotated(device: &Device, record: &[u8]) -> Option<Outcome>
+    requires { Valid device.now }
+    ensures { result ≡ outcome_of device.now (read_as kinds.AddressRotated «record».now) }
 {
-    if record.len() != 11 {
-        return marker(device);
+    let (clock, fields) = fields::on_device(record)?;
+    if fields.len() != 8 {
+        return None;
     }
-    if 1 < record[10] {
-        return marker(device);
-    }
-    let clock = fields::clock(record, 2);
-    Played {
-        kind: Kind::PairingMode,
-        outcome: device.pairing_mode(record[10] == 1, clock),
-    }
+    let ble = Address {
+        bytes: part(fields, 0),
+    };
+    Some(device.address_rotated(ble, part(fields, 6), clock))
 }
 
-fn address_rotated(device: Device, record: &[u8]) -> Played
-    requires { Valid device }
-    ensures { result ≡ played device (read_as kinds.AddressRotated «record».now) }
+fn factory_reset(device: &Device, record: &[u8]) -> Option<Outcome>
+    requires { Valid device.now }
+    ensures { result ≡ outcome_of device.now (read_as kinds.FactoryReset «record».now) }
 {
-    if record.len() != 18 {
-        return marker(device);
-    }
-    let clock = fields::clock(record, 2);
-    let ble = fields::address(record, 10);
-    let salt = fields::two(record, 16);
-    Played {
-        kind: Kind::AddressRotated,
-        outcome: device.address_rotated(ble, salt, clock),
-    }
+    let (clock, fields) = fields::on_device(record)?;
+    let [] = fields else {
+        return None;
+    };
+    Some(device.factory_reset(clock))
 }
 
-fn factory_reset(device: Device, record: &[u8]) -> Played
-    requires { Valid device }
-    ensures { result ≡ played device (read_as kinds.FactoryReset «record».now) }
+fn pairing_started(device: &Device, record: &[u8]) -> Option<Outcome>
+    requires { Valid device.now }
+    ensures { result ≡ outcome_of device.now (read_as kinds.PairingStarted «record».now) }
 {
-    if record.len() != 10 {
-        return marker(device);
-    }
-    let clock = fields::clock(record, 2);
-    Played {
-        kind: Kind::FactoryReset,
-        outcome: device.factory_reset(clock),
-    }
+    let (link, clock, fields) = fields::on_link(record)?;
+    Some(device.pairing_started(link, clock, fields::only(fields)?))
 }
 
-fn pairing_started(device: Device, record: &[u8]) -> Played
-    requires { Valid device }
-    ensures { result ≡ played device (read_as kinds.PairingStarted «record».now) }
+fn confirmation_needed(device: &Device, record: &[u8]) -> Option<Outcome>
+    requires { Valid device.now }
+    ensures { result ≡ outcome_of device.now (read_as kinds.ConfirmationNeeded «record».now) }
 {
-    if record.len() != 12 {
-        return marker(device);
+    let (link, clock, fields) = fields::on_link(record)?;
+    if fields.len() != 4 {
+        return None;
     }
-    let link = Link(record[2]);
-    let clock = fields::clock(record, 3);
-    Played {
-        kind: Kind::PairingStarted,
-        outcome: device.pairing_started(link, clock, record[11]),
-    }
+    let passkey = u32::from_be_bytes(part(fields, 0));
+    Some(device.confirmation_needed(link, clock, passkey))
 }
 
-fn confirmation_needed(device: Device, record: &[u8]) -> Played
-    requires { Valid device }
-    ensures { result ≡ played device (read_as kinds.ConfirmationNeeded «record».now) }
+fn pairing_ended(device: &Device, record: &[u8]) -> Option<Outcome>
+    requires { Valid device.now }
+    ensures { result ≡ outcome_of device.now (read_as kinds.PairingEnded «record».now) }
 {
-    if record.len() != 15 {
-        return marker(device);
-    }
-    let link = Link(record[2]);
-    let clock = fields::clock(record, 3);
-    let passkey = fields::number(record, 11, 4) as u32;
-    Played {
-        kind: Kind::ConfirmationNeeded,
-        outcome: device.confirmation_needed(link, clock, passkey),
-    }
+    let (link, clock, fields) = fields::on_link(record)?;
+    let success = fields::flag(fields::only(fields)?)?;
+    Some(device.pairing_ended(link, clock, success))
 }
 
-fn pairing_ended(device: Device, record: &[u8]) -> Played
-    requires { Valid device }
-    ensures { result ≡ played device (read_as kinds.PairingEnded «record».now) }
+fn account_key_write(device: &Device, record: &[u8]) -> Option<Outcome>
+    requires { Valid device.now }
+    ensures { result ≡ outcome_of device.now (read_as kinds.AccountKeyWrite «record».now) }
 {
-    if record.len() != 12 {
-        return marker(device);
-    }
-    if 1 < record[11] {
-        return marker(device);
-    }
-    let link = Link(record[2]);
-    let clock = fields::clock(record, 3);
-    Played {
-        kind: Kind::PairingEnded,
-        outcome: device.pairing_ended(link, clock, record[11] == 1),
-    }
+    let (link, clock, block) = fields::on_link(record)?;
+    Some(device.account_key_write(link, clock, block))
 }
 
-fn account_key_write(device: Device, record: &[u8]) -> Played
-    requires { Valid device }
-    ensures { result ≡ played device (read_as kinds.AccountKeyWrite «record».now) }
+fn name_write(device: &Device, record: &[u8]) -> Option<Outcome>
+    requires { Valid device.now }
+    ensures { result ≡ outcome_of device.now (read_as kinds.NameWrite «record».now) }
 {
-    if record.len() < 11 {
-        return marker(device);
-    }
-    let link = Link(record[2]);
-    let clock = fields::clock(record, 3);
-    Played {
-        kind: Kind::AccountKeyWrite,
-        outcome: device.account_key_write(link, clock, &record[11..]),
-    }
+    let (link, clock, packet) = fields::on_link(record)?;
+    Some(device.name_write(link, clock, packet))
 }
 
-fn name_write(device: Device, record: &[u8]) -> Played
-    requires { Valid device }
-    ensures { result ≡ played device (read_as kinds.NameWrite «record».now) }
+fn power_on(device: &Device, record: &[u8]) -> Option<Outcome>
+    requires { Valid device.now }
+    ensures { result ≡ outcome_of device.now (read_power_on «record».now) }
 {
-    if record.len() < 11 {
-        return marker(device);
-    }
-    let link = Link(record[2]);
-    let clock = fields::clock(record, 3);
-    Played {
-        kind: Kind::NameWrite,
-        outcome: device.name_write(link, clock, &record[11..]),
-    }
+    let [_, _, high, low, fields @ ..] = record else {
+        return None;
+    };
+    let length = u16::from_be_bytes([*high, *low]);
+    let (stored, fields) = fields.split_at_checked(usize::from(length))?;
+    let (start, name) = fields.split_first_chunk()?;
+    Some(device.power_on(stored, name, read_start(start)))
 }
 
-fn power_on(device: Device, record: &[u8]) -> Played
-    requires { Valid device }
-    ensures { result ≡ played device (read_power_on «record».now) }
+fn passkey_write(device: &Device, record: &[u8]) -> Option<Outcome>
+    requires { Valid device.now }
+    ensures { result ≡ outcome_of device.now (read_passkey_write «record».now) }
 {
-    if record.len() < 21 {
-        return marker(device);
-    }
-    let length = fields::number(record, 2, 2) as usize;
-    if record.len() - 21 < length {
-        return marker(device);
-    }
-    let list_end = 4 + length;
-    let name = 21 + length;
-    let start = start(record, list_end);
-    Played {
-        kind: Kind::PowerOn,
-        outcome: device.power_on(&record[4..list_end], &record[name..], start),
-    }
-}
-
-fn passkey_write(device: Device, record: &[u8]) -> Played
-    requires { Valid device }
-    ensures { result ≡ played device (read_passkey_write «record».now) }
-{
-    if record.len() < 31 {
-        return marker(device);
-    }
-    let link = Link(record[2]);
-    let clock = fields::clock(record, 3);
-    let block_end = record.len() - 20;
-    let salt = fields::twelve(record, block_end);
+    let (link, clock, fields) = fields::on_link(record)?;
+    let (block, tail) = fields.split_last_chunk::<20>()?;
     let mut out = [0u8; RESPONSE];
-    let lent = at_most(fields::number(record, block_end + 12, 8), RESPONSE);
-    Played {
-        kind: Kind::PasskeyWrite,
-        outcome: device.passkey_write(link, clock, &record[11..block_end], salt, &mut out[..lent]),
-    }
+    let lent = fields::lent(u64::from_be_bytes(part(tail, 12)), RESPONSE);
+    Some(device.passkey_write(link, clock, block, part(tail, 0), &mut out[..lent]))
 }
 
-fn key_based_write(device: Device, record: &[u8]) -> Played
-    requires { Valid device }
-    ensures { result ≡ played device (read_key_based_write «record».now) }
+fn key_based_write(device: &Device, record: &[u8]) -> Option<Outcome>
+    requires { Valid device.now }
+    ensures { result ≡ outcome_of device.now (read_key_based_write «record».now) }
 {
-    if record.len() < 77 {
-        return marker(device);
-    }
-    let at = record.len() - 66;
-    if 1 < record[at] {
-        return marker(device);
-    }
-    let element = element(record, at);
-    if !is_element(element) {
-        return marker(device);
-    }
-    request(device, record, at, element)
-}
-
-// A key-based write whose tail begins at `at`.
-fn request(device: Device, record: &[u8], at: usize, element: Element) -> Played
-    requires valid { Valid device }
-    requires le_at { (11 ≤ at) × (at + 66 ≤ length «record».now) }
-    requires element_value { element ≡ reading.element_at at «record».now }
-    ensures { result ≡ played device (reading.link_event «record».now (reading.key_based_fields at «record».now)) }
-{
-    let link = Link(record[2]);
-    let clock = fields::clock(record, 3);
-    let salt = fields::nine(record, at + 33);
-    let nonce = fields::eight(record, at + 42);
+    let (link, clock, fields) = fields::on_link(record)?;
+    let (request, tail) = fields.split_last_chunk::<66>()?;
+    let element = read_element(fields::flag(tail[0])?, part(tail, 1))?;
     let mut out = [0u8; RESPONSE];
     let mut packet = [0u8; PACKET];
-    let n = at_most(fields::number(record, at + 50, 8), RESPONSE);
-    let m = at_most(fields::number(record, at + 58, 8), PACKET);
-    let outcome = device.key_based_write(
+    let out_length = fields::lent(u64::from_be_bytes(part(tail, 50)), RESPONSE);
+    let packet_length = fields::lent(u64::from_be_bytes(part(tail, 58)), PACKET);
+    Some(device.key_based_write(
         link,
         clock,
-        &record[11..at],
+        request,
         element,
-        salt,
-        nonce,
-        &mut out[..n],
-        &mut packet[..m],
-    );
-    Played {
-        kind: Kind::KeyBasedWrite,
-        outcome: outcome,
-    }
+        part(tail, 33),
+        part(tail, 42),
+        &mut out[..out_length],
+        &mut packet[..packet_length],
+    ))
 }
 
-fn element(record: &[u8], at: usize) -> Element
-    requires { at + 33 ≤ length «record».now }
-    ensures { result ≡ reading.element_at at «record».now }
+// The element's result. A rejected point has no secret: zeros stand for it.
+fn read_element(accepted: bool, secret: [u8; 32]) -> Option<Option<[u8; 32]>>
+    ensures { MatchOption result
+        (reading.is_element accepted secret ≡ false)
+        (λ e. (reading.is_element accepted secret ≡ true) × (e ≡ reading.secret_if accepted secret)) }
 {
-    Element {
-        accepted: record[at] == 1,
-        secret: fields::thirty_two(record, at + 1),
+    if accepted || basics::same(&secret, &[0u8; 32]) {
+        Some(accepted.then_some(secret))
+    } else {
+        None
     }
 }
 
-// A rejected point has no secret: zeros stand for it.
-fn is_element(element: Element) -> bool
-    ensures { result ≡ reading.is_element element }
-{
-    if element.accepted {
-        return true;
-    }
-    let secret = element.secret;
-    let zeros = [0u8; 32];
-    basics::same(&secret, &zeros)
-}
-
-fn start(record: &[u8], at: usize) -> Start
-    requires { at + 17 ≤ length «record».now }
-    ensures { result ≡ reading.start_at at «record».now }
+// Addresses, model ID and salt.
+fn read_start(bytes: &[u8; 17]) -> Start
+    ensures { result ≡ reading.start_at 0 bytes.now }
 {
     Start {
         identity: Identity {
-            public: fields::address(record, at + 6),
-            model: fields::three(record, at + 12),
+            public: Address {
+                bytes: part(bytes, 6),
+            },
+            model: part(bytes, 12),
         },
-        ble: fields::address(record, at),
-        salt: fields::two(record, at + 15),
+        ble: Address {
+            bytes: part(bytes, 0),
+        },
+        salt: part(bytes, 15),
     }
-}
-
-// A length that was recorded, or the most that is lent.
-fn at_most(length: u64, most: usize) -> usize
-    ensures { result ≡ min length most }
-{
-    if length < most as u64 {
-        return length as usize;
-    }
-    most
 }

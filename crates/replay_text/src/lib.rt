@@ -17,11 +17,10 @@ pub fn put_line(out: &mut [u8], at: usize, line: Line) -> usize
     ensures value { (result ≡ at + length (spec.text line)) × (result ≤ at + 83) }
     ensures out_after { out.new ≡ paste out.old at (spec.text line) (length (spec.text line)) }
 {
-    let kind = line.kind;
     let after_number = put_number(out, at, line.number);
     let kind_at = put(out, after_number, b" ");
-    let after_kind = put_kind(out, kind_at, kind);
-    let after_answer = put_behind_space(out, after_kind, line.answer as u64);
+    let after_kind = put(out, kind_at, kind_name(line.kind));
+    let after_answer = put_behind_space(out, after_kind, u64::from(line.answer.number()));
     let after_size = put_behind_space(out, after_answer, line.size as u64);
     put(out, after_size, b"\n")
 }
@@ -41,31 +40,30 @@ fn put_number(out: &mut [u8], at: usize, number: u64) -> usize
     ensures value { (result ≡ at + length (spec.decimal number)) × (result ≤ at + 20) }
     ensures out_after { out.new ≡ paste out.old at (spec.decimal number) (length (spec.decimal number)) }
 {
-    let mut digits = [0u8; 20];
+    let mut digits = [0; 20];
     let count = io::decimal(number, &mut digits);
     put(out, at, &digits[..count])
 }
 
-fn put_kind(out: &mut [u8], at: usize, kind: Kind) -> usize
-    requires { at + 19 ≤ length out.old }
-    ensures value { (result ≡ at + length (spec.kind_name kind)) × (result ≤ at + 19) }
-    ensures out_after { out.new ≡ paste out.old at (spec.kind_name kind) (length (spec.kind_name kind)) }
+fn kind_name(kind: Kind) -> &'static [u8]
+    ensures value { result.now ≡ spec.kind_name kind }
+    ensures short { length result.now ≤ 19 }
 {
     match kind {
-        Kind::Marker => put(out, at, b"marker"),
-        Kind::LinkUp => put(out, at, b"link-up"),
-        Kind::LinkDown => put(out, at, b"link-down"),
-        Kind::PairingMode => put(out, at, b"pairing-mode"),
-        Kind::AddressRotated => put(out, at, b"address-rotated"),
-        Kind::PowerOn => put(out, at, b"power-on"),
-        Kind::FactoryReset => put(out, at, b"factory-reset"),
-        Kind::KeyBasedWrite => put(out, at, b"key-based-write"),
-        Kind::PairingStarted => put(out, at, b"pairing-started"),
-        Kind::ConfirmationNeeded => put(out, at, b"confirmation-needed"),
-        Kind::PasskeyWrite => put(out, at, b"passkey-write"),
-        Kind::PairingEnded => put(out, at, b"pairing-ended"),
-        Kind::AccountKeyWrite => put(out, at, b"account-key-write"),
-        Kind::NameWrite => put(out, at, b"name-write"),
+        Kind::Marker => b"marker",
+        Kind::LinkUp => b"link-up",
+        Kind::LinkDown => b"link-down",
+        Kind::PairingMode => b"pairing-mode",
+        Kind::AddressRotated => b"address-rotated",
+        Kind::PowerOn => b"power-on",
+        Kind::FactoryReset => b"factory-reset",
+        Kind::KeyBasedWrite => b"key-based-write",
+        Kind::PairingStarted => b"pairing-started",
+        Kind::ConfirmationNeeded => b"confirmation-needed",
+        Kind::PasskeyWrite => b"passkey-write",
+        Kind::PairingEnded => b"pairing-ended",
+        Kind::AccountKeyWrite => b"account-key-write",
+        Kind::NameWrite => b"name-write",
     }
 }
 

@@ -9,10 +9,9 @@ use Rattle.replay.specs.Parts.{start_stream, Ready, fed, ended}
 use Rattle.replay.specs.Promises.{Lines, line_then, fed_within, fed_part, fed_parts, line_of}
 use Rattle.replay.specs.declared.Line.{Line}
 use Rattle.replay.specs.declared.parts.Ended.{Ended}
-use Rattle.replay.specs.declared.parts.Printed.{Printed}
-use Rattle.replay.specs.declared.parts.Printed.TheVariants.{Nothing, One}
+use Rattle.std.specs.Prelude.{Option, Some, None}
 use Rattle.replay.specs.declared.parts.Stream.{Stream}
-use Rattle.replayer.proofs.ReadsBack.{reads_back}
+use Rattle.replayer.proofs.ReadsBack.{unpacked_back}
 use Rattle.replayer.specs.Calls.{packed_stream, packed_line, packed_fed, fed_back, ended_back, fed_call, ended_call}
 use Rattle.replayer.specs.Demands.{CallLines, call_then, calls_within, calls_fed, last_line, CallsJoined}
 use Rattle.replayer.specs.declared.FpFed.{FpFed}
@@ -21,23 +20,19 @@ use Rattle.replayer.specs.declared.FpLine.{FpLine}
 -- a call on a replay that was handed out
 call_is : (s : Stream) → Ready s → (bs : List ℕ) (at : ℕ) → fed_call (packed_stream s) bs at ≡ fed_back (fed s bs at)
 unfolding fed_call
-call_is s r bs at =
-    let back = reads_back s r in
-    rw back.0 (ap (λ (x : Stream). fed_back (fed x bs at)) back.1)
+call_is s r bs at = rw (unpacked_back s r)
 
 end_is : (s : Stream) → Ready s → ended_call (packed_stream s) ≡ ended_back (ended s)
 unfolding ended_call
-end_is s r =
-    let back = reads_back s r in
-    rw back.0 (ap (λ (x : Stream). ended_back (ended x)) back.1)
+end_is s r = rw (unpacked_back s r)
 
 -- lines as C gets them
 abbrev numbers : Lines → CallLines
 numbers l = record { lines = map packed_line l.lines; next = packed_stream l.next }
 
-then_is : (s : Stream) (p : Printed) (at : ℕ) (later : Lines) → call_then (packed_fed s p at) (numbers later) ≡ numbers (line_then p s later)
-then_is s Nothing at later = refl
-then_is s (One l) at later = refl
+then_is : (s : Stream) (p : Option Line) (at : ℕ) (later : Lines) → call_then (packed_fed s p at) (numbers later) ≡ numbers (line_then p s later)
+then_is s None at later = refl
+then_is s (Some l) at later = refl
 
 within_is : (fuel : ℕ) (s : Stream) (bs : List ℕ) (at : ℕ) → Ready s
     → calls_within fuel (packed_stream s) bs at ≡ numbers (fed_within fuel s bs at)
@@ -64,9 +59,9 @@ parts_are s (p ∷ ps) r =
 last_is : (e : Ended) → last_line (ended_back e) ≡ map packed_line (line_of e.line)
 last_is e = by-line e.line
   where
-    by-line : (p : Printed) → last_line (packed_fed e.next p 0) ≡ map packed_line (line_of p)
-    by-line Nothing = refl
-    by-line (One l) = refl
+    by-line : (p : Option Line) → last_line (packed_fed e.next p 0) ≡ map packed_line (line_of p)
+    by-line None = refl
+    by-line (Some l) = refl
 
 pub calls_joined : CallsJoined
 calls_joined parts =

@@ -1,3 +1,2 @@
 pub mod CallsJoined
-pub mod Laws
 pub mod ReadsBack

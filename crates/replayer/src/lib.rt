@@ -49,13 +49,6 @@ pub struct FpFed {
     pub reserved: [u8; 7],
 }
 
-// What was handed in, read as a stream; one of which nothing has come where the bytes are no replay.
-#[derive(Clone, Copy)]
-pub struct Unpacked {
-    pub known: bool,
-    pub stream: Stream,
-}
-
 #[unsafe(no_mangle)]
 pub extern "C" fn fp_replay_start() -> FpReplay
     ensures { result ≡ spec.packed_stream start_stream }
@@ -63,27 +56,25 @@ pub extern "C" fn fp_replay_start() -> FpReplay
     pack::stream(Stream::start())
 }
 
+#[tactic(auto, unfolding(crate::specs::Calls::fed_call))]
 #[unsafe(no_mangle)]
 pub extern "C" fn fp_replay_feed(replay: FpReplay, part: &[u8], at: usize) -> FpFed
     ensures { result ≡ spec.fed_call replay part.now at }
 {
-    let from = unpack::unpack(replay);
-    if !from.known {
+    let Some(stream) = unpack::unpack(replay) else {
         return returned(replay, behind_part(part, at));
-    }
-    let stream = from.stream;
+    };
     pack::fed(stream.feed(part, at))
 }
 
+#[tactic(auto, unfolding(crate::specs::Calls::ended_call))]
 #[unsafe(no_mangle)]
 pub extern "C" fn fp_replay_end(replay: FpReplay) -> FpFed
     ensures { result ≡ spec.ended_call replay }
 {
-    let from = unpack::unpack(replay);
-    if !from.known {
+    let Some(stream) = unpack::unpack(replay) else {
         return returned(replay, 0);
-    }
-    let stream = from.stream;
+    };
     pack::ended(stream.end())
 }
 
@@ -96,7 +87,7 @@ fn returned(replay: FpReplay, at: usize) -> FpFed
         line: pack::no_line(),
         at: at as u64,
         status: 255,
-        reserved: [0u8; 7],
+        reserved: [0; 7],
     }
 }
 
@@ -104,8 +95,5 @@ fn returned(replay: FpReplay, at: usize) -> FpFed
 fn behind_part(part: &[u8], at: usize) -> usize
     ensures { result ≡ behind_part part.now at }
 {
-    if part.len() <= at {
-        return at;
-    }
-    part.len()
+    part.len().max(at)
 }

@@ -5,25 +5,25 @@ ghost use Rattle.replayer.specs.Calls as spec;
 
 use crate::{FpFed, FpLine, FpReplay};
 use packed::pack;
+use reassembly::Unfinished;
 use replay::Line;
-use replay::parts::{Ended, Fed, Printed, Stream};
+use replay::parts::{Ended, Fed, Stream};
 
+#[tactic(auto, unfolding(crate::specs::Calls::packed_stream))]
 pub fn stream(from: Stream) -> FpReplay
     requires { Ready from }
     ensures { result ≡ spec.packed_stream from }
 {
-    let replay = from.replay;
-    let device = replay.device;
-    let unfinished = from.unfinished;
-    let bytes = unfinished.bytes;
+    let Stream { replay, unfinished } = from;
+    let Unfinished { bytes, count, skip } = unfinished;
     FpReplay {
-        device: pack::pack(device),
+        device: pack::pack(replay.device),
         number: replay.number,
-        held: unfinished.count as u64,
-        skip: unfinished.skip as u64,
-        bytes: bytes,
+        held: count as u64,
+        skip: skip as u64,
+        bytes,
         started: pack::flag(replay.started),
-        reserved: [0u8; 5],
+        reserved: [0; 5],
     }
 }
 
@@ -31,18 +31,14 @@ pub fn fed(from: Fed) -> FpFed
     requires { Ready from.next }
     ensures { result ≡ spec.packed_fed from.next from.line from.at }
 {
-    let next = from.next;
-    let printed = from.line;
-    shown(next, printed, from.at)
+    shown(from.next, from.line, from.at)
 }
 
 pub fn ended(from: Ended) -> FpFed
     requires { Ready from.next }
     ensures { result ≡ spec.packed_fed from.next from.line 0 }
 {
-    let next = from.next;
-    let printed = from.line;
-    shown(next, printed, 0)
+    shown(from.next, from.line, 0)
 }
 
 pub fn no_line() -> FpLine
@@ -53,51 +49,41 @@ pub fn no_line() -> FpLine
         keys: 0,
         kind: 0,
         answer: 0,
-        reserved: [0u8; 6],
+        reserved: [0; 6],
     }
 }
 
 // The next stream with a line, or none.
-fn shown(next: Stream, printed: Printed, at: usize) -> FpFed
+fn shown(next: Stream, line: Option<Line>, at: usize) -> FpFed
     requires { Ready next }
-    ensures { result ≡ spec.packed_fed next printed at }
+    ensures { result ≡ spec.packed_fed next line at }
 {
     FpFed {
         next: stream(next),
-        line: line_of(printed),
+        line: line_of(line),
         at: at as u64,
-        status: status_of(printed),
-        reserved: [0u8; 7],
+        status: u8::from(line.is_some()),
+        reserved: [0; 7],
     }
 }
 
-fn line_of(printed: Printed) -> FpLine
-    ensures { result ≡ spec.line_numbers printed }
+fn line_of(line: Option<Line>) -> FpLine
+    ensures { result ≡ spec.line_numbers line }
 {
-    match printed {
-        Printed::Nothing => no_line(),
-        Printed::One(line) => one_line(line),
+    match line {
+        Some(line) => one_line(line),
+        None => no_line(),
     }
 }
 
 fn one_line(from: Line) -> FpLine
     ensures { result ≡ spec.packed_line from }
 {
-    let kind = from.kind;
     FpLine {
         number: from.number,
         keys: from.size as u64,
-        kind: kind.byte(),
-        answer: from.answer,
-        reserved: [0u8; 6],
-    }
-}
-
-fn status_of(printed: Printed) -> u8
-    ensures { result ≡ spec.status_of printed }
-{
-    match printed {
-        Printed::Nothing => 0,
-        Printed::One(_) => 1,
+        kind: from.kind.byte(),
+        answer: from.answer.number(),
+        reserved: [0; 6],
     }
 }

@@ -1,60 +1,48 @@
 // What C hands in may be any bytes: they are read as a stream, or are no replay.
-ghost use Rattle.std.specs.Prelude.{◌≡◌};
+ghost use Rattle.std.specs.Prelude.{◌≡◌, IfSome};
+ghost use Rattle.replay.specs.Parts.{Ready};
 ghost use Rattle.replayer.specs.Calls as spec;
 
-use crate::{FpReplay, Unpacked};
+use crate::FpReplay;
 use packed::unpack;
 use reassembly::Unfinished;
 use replay::Replay;
 use replay::parts::Stream;
 
-pub fn unpack(from: FpReplay) -> Unpacked
-    ensures { result ≡ record { known = spec.is_replay from; stream = spec.stream_of from } }
+// The stream that the bytes are; none where they are no replay.
+#[tactic(auto, unfolding(crate::specs::Calls::unpacked_stream))]
+pub fn unpack(from: FpReplay) -> Option<Stream>
+    ensures value { result ≡ spec.unpacked_stream from }
+    ensures ready { IfSome result Ready }
 {
-    let given = from.device;
-    let read = unpack::unpack(given);
-    if !read.known {
-        return no_replay();
-    }
+    let device = unpack::unpack(from.device)?;
+    let unfinished = held(from).read_again()?;
     if 1 < from.started {
-        return no_replay();
+        return None;
     }
-    let again = held(from);
-    if !again.good {
-        return no_replay();
-    }
-    let device = read.device;
-    let unfinished = again.unfinished;
-    Unpacked {
-        known: true,
-        stream: Stream {
-            replay: Replay {
-                started: from.started == 1,
-                number: from.number,
-                device: device,
-            },
-            unfinished: unfinished,
+    Some(Stream {
+        replay: Replay {
+            started: from.started == 1,
+            number: from.number,
+            device,
         },
-    }
+        unfinished,
+    })
 }
 
-fn held(from: FpReplay) -> reassembly::Again
-    ensures { result ≡ spec.held_again from }
+// What the bytes say is held, which may be anything.
+fn held(from: FpReplay) -> Unfinished
+    ensures { result ≡ spec.held_in from }
 {
-    let bytes = from.bytes;
-    let given = Unfinished {
-        bytes: bytes,
-        count: from.held as usize,
-        skip: from.skip as usize,
-    };
-    given.read_again()
-}
-
-fn no_replay() -> Unpacked
-    ensures { result ≡ spec.no_replay }
-{
-    Unpacked {
-        known: false,
-        stream: Stream::start(),
+    let FpReplay {
+        bytes,
+        held,
+        skip,
+        ..
+    } = from;
+    Unfinished {
+        bytes,
+        count: held as usize,
+        skip: skip as usize,
     }
 }

@@ -6,39 +6,36 @@ use mathlib.Core.Path.{◌≡◌, refl, sym, ap, ◌∙◌}
 use Prim.Native.Nat.{ℕ, zero, suc, ◌+◌, ◌-◌, ◌≤◌, ◌<◌}
 use native.Mathlib.Omega.{arith}
 use lib.Dec.{leb, eqb}
-use lib.ListN.{take, drop, set, get_or, replicate, length, length-append, length-drop, length-take, drop_of_length-le, get_or-append}
-use lib.Seq.{paste, get_or-take}
-use borrow.Author.Tests.{eq-eqb, ne_eqb, le-leb, lt-leb, leb-true, leb-false, eqb-true, eqb-false}
+use lib.ListN.{take, drop, set, get_or, replicate, length, length-append, length-drop, length-take, get_or-append}
+use lib.Seq.{get_or-take, length-take-le}
+use borrow.Author.Tests.{le-leb, lt-leb, leb-true, leb-false, eqb-true, eqb-false}
+use Rattle.std.specs.List.{list_any, list_all}
+use Rattle.std.proofs.lemmas.Grind.{common_steps}
 use Rattle.laws.proofs.All.{all_get, all_append, all_drop, all_tabulate}
 use Rattle.laws.proofs.Choice.{if_holds, if_same, and_left, and_right}
-use Rattle.laws.proofs.Filled.{length_tabulate, get_d_tabulate, drop_tabulate, tabulate_ext, tabulate_take}
-use Rattle.laws.proofs.Lists.{drop_take_more, drop_take_all}
-use Rattle.laws.proofs.Padded.{one_less_within, length_places, set_free_place, count_one_more, paste_one_less, count_one_less, take_padded}
+use Rattle.laws.proofs.Filled.{length_tabulate, get_d_tabulate, tabulate_ext, tabulate_take}
+use Rattle.laws.proofs.Lists.{drop_replicate}
+use Rattle.laws.proofs.Padded.{one_less_within, length_places, set_free_place, count_one_more, take_padded}
 use Rattle.laws.specs.Choice.{◌and◌, ◌or◌}
 use Rattle.laws.specs.Lists.{padded, All}
 use Rattle.laws.specs.Tabulate.{tabulate}
-use Rattle.basics.specs.Bytes.{same}
-use Rattle.request_guard.specs.Guard.{Kept, same_salt, spent, Valid, salt_limit, no_salt, remembered, salts, remembering, no_failures, with_failures, fresh, locked, failed_at, accepted_with, guard_at, bounded, in_use, cleaned, salt_room, sized_salt, cleaned_salt, Proper, all_sized}
+use Rattle.request_guard.specs.Guard.{Kept, same_salt, spent, Valid, salt_limit, no_salt, remembered, salts, remembering, no_failures, fresh, locked, failed_at, accepted_with, guard_at, bounded, in_use, cleaned, salt_room, sized_salt, cleaned_salt, Proper, all_sized}
 use Rattle.request_guard.specs.declared.Failures.{Failures}
 use Rattle.request_guard.specs.declared.Guard.{Guard}
 use Rattle.request_guard.specs.declared.Salt.{Salt}
 use Rattle.request_guard.specs.declared.SpentSalts.{SpentSalts}
-
--- the two ways of the guard at a moment
-module _ (t : ℕ) (g : Guard) where
-  pub guard_at_recent : t - g.failures.last.0 < 300000 → g ≡ guard_at t g
-  unfolding guard_at
-  guard_at_recent h = rw (lt-leb 300000 (t - g.failures.last.0) h)
-
-  pub guard_at_forgotten : 300000 ≤ t - g.failures.last.0 → with_failures g no_failures ≡ guard_at t g
-  unfolding guard_at
-  guard_at_forgotten h = rw (le-leb 300000 (t - g.failures.last.0) h)
 
 -- ---- salts
 
 -- what a read past the end of an array of salts gives
 abbrev pub absent_salt : Salt
 absent_salt = record { length = 0; bytes = [] }
+
+-- the bytes in use copied to the front of zeros
+pub cleaned_front : (s : Salt) → length s.bytes ≡ salt_room → s.length ≤ salt_room
+    → take s.length s.bytes ++ drop s.length (replicate salt_room 0) ≡ (cleaned_salt s).bytes
+cleaned_front s e h =
+    rw (tabulate_take s.length s.bytes 0 (omega arith), length-take-le s.length s.bytes (omega arith), drop_replicate {A = ℕ})
 
 -- it is cleaned to the salt of a place that is not in use
 pub cleaned_read : (l : List Salt) (i : ℕ) → cleaned_salt (get_or l i absent_salt) ≡ cleaned_salt (get_or l i no_salt)
@@ -154,19 +151,10 @@ module _ (g : Guard) (v : Valid g) where
 
 -- ---- the spent salts
 
-pub spent_step : (l : List Salt) (n i : ℕ) (s : Salt) → i < n → n ≤ length l
-    → spent (drop i (take n l)) s ≡ (same_salt (get_or l i absent_salt) s or spent (drop (i + 1) (take n l)) s)
-spent_step l n i s h j = rw (drop_take_more l n i absent_salt h j)
-
-pub spent_end : (l : List Salt) (n i : ℕ) (s : Salt) → n ≤ i → spent (drop i (take n l)) s ≡ false
-spent_end l n i s h = rw (drop_take_all l n i h)
-
--- salts of other lengths are others
-pub same_salt_other_length : (a b : Salt) → (a.length ≡ b.length → ⊥) → false ≡ same_salt a b
-same_salt_other_length a b h = rw (ne_eqb a.length b.length h)
-
-pub same_salt_same_length : (a b : Salt) → a.length ≡ b.length → same a.bytes b.bytes ≡ same_salt a b
-same_salt_same_length a b h = rw (eq-eqb a.length b.length h)
+-- one of the salts is the same
+pub spent_any : (l : List Salt) (s : Salt) → list_any (λ x. same_salt x s) l ≡ spent l s
+spent_any [] s = refl
+spent_any (x ∷ l) s = grind (arith, common_steps, spent_any l s)
 
 pub Kept-salts : (l : List Salt) → length l ≤ salt_limit → Kept (salts l)
 Kept-salts l h = record { few = h; whole = salts_kept l }
@@ -183,19 +171,6 @@ module _ (ss : SpentSalts) (v : Kept ss) where
 
   count-remembered : ss.count ≡ length (remembered ss)
   count-remembered = ap (λ (x : SpentSalts). x.count) v.whole
-
-  -- what is copied from the second place on, of a full list
-  pub salts_drop : salt_limit ≤ ss.count
-      → ◌≡◌ {A = SpentSalts} (record {
-        salts = paste (replicate salt_limit no_salt) 0 (drop 1 ss.salts) (salt_limit - 1);
-        count = salt_limit - 1;
-      })
-      (salts (drop 1 (remembered ss)))
-  salts_drop h =
-      λ i. record {
-        salts = paste_one_less salt_limit no_salt ss.salts ss.count v.few salts-padded h i;
-        count = count_one_less salt_limit no_salt ss.salts ss.count v.few salts-padded h i;
-      }
 
   -- a full list without its oldest salt has room
   pub Kept-drop : Kept (salts (drop 1 (remembered ss))) × (length (drop 1 (remembered ss)) < salt_limit)
@@ -227,6 +202,13 @@ module _ (ss : SpentSalts) (s : Salt) (v : Kept ss) where
 
 -- ---- a guard of any bytes
 
+-- cleaning leaves how many bytes a salt has
+pub sized_all : (n : ℕ) (l : List Salt) → n ≤ length l
+    → list_all sized_salt (take n l) ≡ all_sized (tabulate n (λ i. cleaned_salt (get_or l i no_salt)))
+sized_all zero l h = refl
+sized_all (suc n) [] h = absurd (omega arith)
+sized_all (suc n) (s ∷ l) h = let rest = sized_all n l (omega arith) in grind (arith, common_steps, rest)
+
 module _ (ss : SpentSalts) where
   -- salt i in use, cleaned
   abbrev used : ℕ → Salt
@@ -234,16 +216,6 @@ module _ (ss : SpentSalts) where
 
   pub count_in_use : length (in_use ss) ≡ ss.count
   count_in_use = length_tabulate ss.count used
-
-  pub sized_step : (i : ℕ) → i < ss.count
-      → all_sized (drop i (in_use ss)) ≡ (sized_salt (get_or ss.salts i absent_salt) and all_sized
-      (drop (i + 1) (in_use ss)))
-  sized_step i h =
-      ap all_sized (drop_tabulate ss.count used i h)
-      ∙ ap (λ (s : Salt). sized_salt s and all_sized (drop (i + 1) (in_use ss))) (sym (cleaned_read ss.salts i))
-
-  pub sized_end : (i : ℕ) → ss.count ≤ i → all_sized (drop i (in_use ss)) ≡ true
-  sized_end i h = rw (drop_of_length-le (in_use ss) {i = i} (omega (arith, count_in_use)))
 
   in-use-clean : All (λ s. s ≡ cleaned_salt s) (in_use ss)
   in-use-clean =
@@ -262,12 +234,6 @@ module _ (ss : SpentSalts) where
         sized_within (get_or ss.salts i absent_salt) (ap sized_salt (cleaned_read ss.salts i) ∙ s)
 
 module _ (g : Guard) where
-  pub too_many_salts : salt_limit < g.spent.count → false ≡ bounded g
-  too_many_salts h = rw (lt-leb g.spent.count salt_limit h)
-
-  pub too_many_failures : g.spent.count ≤ salt_limit → 10 < g.failures.count → false ≡ bounded g
-  too_many_failures h k = rw (le-leb g.spent.count salt_limit h, lt-leb g.failures.count 10 k)
-
   pub counts_bounded : g.spent.count ≤ salt_limit → g.failures.count ≤ 10 → all_sized (in_use g.spent)
       ≡ bounded g
   counts_bounded h k = rw (le-leb g.spent.count salt_limit h, le-leb g.failures.count 10 k)

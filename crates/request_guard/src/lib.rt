@@ -63,11 +63,11 @@ impl Guard {
     }
 
     // What the clock step does to the guard: failures are forgotten 300,000 ms after the last one.
+    #[tactic(auto, unfolding(crate::specs::Guard::guard_at))]
     pub fn at_clock(mut self, now: Moment) -> Guard
         ensures { result ≡ guard_at now.0 self }
     {
-        let last = self.failures.last;
-        if basics::ago(now, last) < FORGOTTEN_AFTER {
+        if basics::ago(now, self.failures.last) < FORGOTTEN_AFTER {
             return self;
         }
         self.failures = Failures::none();
@@ -86,11 +86,10 @@ impl Guard {
         requires { self.failures.count < 10 }
         ensures { result ≡ failed_at now.0 self }
     {
-        let more = Failures {
+        self.failures = Failures {
             count: self.failures.count + 1,
             last: now,
         };
-        self.failures = more;
         self
     }
 
@@ -99,8 +98,7 @@ impl Guard {
         requires { Valid self }
         ensures { result ≡ spent (remembered self.spent) salt }
     {
-        let salts = self.spent;
-        salts.holds(salt)
+        self.spent.holds(salt)
     }
 
     // A request that is accepted.
@@ -108,8 +106,7 @@ impl Guard {
         requires { Valid self }
         ensures { result ≡ accepted_with salt self }
     {
-        let salts = self.spent;
-        self.spent = salts.remember(salt);
+        self.spent = self.spent.remember(salt);
         self.failures = Failures::none();
         self
     }
@@ -118,14 +115,7 @@ impl Guard {
     pub fn is_bounded(self) -> bool
         ensures { result ≡ bounded self }
     {
-        let salts = self.spent;
-        if (LIMIT as u64) < salts.count {
-            return false;
-        }
-        if 10 < self.failures.count {
-            return false;
-        }
-        salts.are_sized()
+        self.spent.count <= LIMIT as u64 && self.failures.count <= 10 && self.spent.are_sized()
     }
 
     // The guard with nothing in the places that are not in use.
@@ -133,11 +123,9 @@ impl Guard {
         requires { bounded self ≡ true }
         ensures { result ≡ spec.cleaned self }
     {
-        let salts = self.spent;
-        let failures = self.failures;
         Guard {
-            spent: salts.in_use(),
-            failures: failures.in_use(),
+            spent: self.spent.in_use(),
+            failures: self.failures.in_use(),
         }
     }
 }
@@ -160,15 +148,7 @@ impl SpentSalts {
         ensures { result ≡ spent (remembered self) salt }
     {
         let n = self.count as usize;
-        let mut i = 0;
-        while i < n {
-            let s = self.salts[i];
-            if same_salt(s, salt) {
-                return true;
-            }
-            i += 1;
-        }
-        false
+        self.salts[..n].iter().any(|s| same_salt(*s, salt))
     }
 
     // The salts after one more: of sixteen, the oldest is forgotten.
@@ -176,10 +156,8 @@ impl SpentSalts {
         requires { Kept self }
         ensures { result ≡ salts (remembering (remembered self) salt) }
     {
-        let n = self.count as usize;
-        if LIMIT <= n {
-            let rest = self.without_oldest();
-            return rest.push(salt);
+        if LIMIT as u64 <= self.count {
+            return self.without_oldest().push(salt);
         }
         self.push(salt)
     }
@@ -189,9 +167,8 @@ impl SpentSalts {
         requires { Kept self × (self.count < salt_limit) }
         ensures { result ≡ salts (remembered self ++ (salt ∷ [])) }
     {
-        let n = self.count;
-        self.salts[n as usize] = salt;
-        self.count = n + 1;
+        self.salts[self.count as usize] = salt;
+        self.count += 1;
         self
     }
 
@@ -200,14 +177,12 @@ impl SpentSalts {
         requires { Kept self × (salt_limit ≤ self.count) }
         ensures { result ≡ salts (drop 1 (remembered self)) }
     {
-        let mut rest = SpentSalts::none();
-        let mut i = 0;
-        while i < LAST {
-            rest.salts[i] = self.salts[i + 1];
-            i += 1;
+        let mut salts = SpentSalts::none().salts;
+        salts[..LAST].copy_from_slice(&self.salts[1..]);
+        SpentSalts {
+            salts,
+            count: LAST as u64,
         }
-        rest.count = LAST as u64;
-        rest
     }
 
     // Whether each salt in use has 2 or 8 bytes.
@@ -216,15 +191,7 @@ impl SpentSalts {
         ensures { result ≡ all_sized (in_use self) }
     {
         let n = self.count as usize;
-        let mut i = 0;
-        while i < n {
-            let s = self.salts[i];
-            if !s.is_sized() {
-                return false;
-            }
-            i += 1;
-        }
-        true
+        self.salts[..n].iter().all(|s| s.is_sized())
     }
 
     // The salts in use, cleaned, and nothing in the other places.
@@ -232,13 +199,10 @@ impl SpentSalts {
         requires { (self.count ≤ salt_limit) × (all_sized (in_use self) ≡ true) }
         ensures { result ≡ salts (in_use self) }
     {
-        let mut rest = SpentSalts::none();
         let n = self.count as usize;
-        let mut i = 0;
-        while i < n {
-            let s = self.salts[i];
-            rest.salts[i] = s.cleaned();
-            i += 1;
+        let mut rest = SpentSalts::none();
+        for (i, salt) in self.salts[..n].iter().enumerate() {
+            rest.salts[i] = salt.cleaned();
         }
         rest.count = self.count;
         rest
@@ -260,26 +224,18 @@ impl Salt {
     {
         let mut bytes = [0u8; 8];
         let n = self.length as usize;
-        let mut i = 0;
-        while i < n {
-            bytes[i] = self.bytes[i];
-            i += 1;
-        }
+        bytes[..n].copy_from_slice(&self.bytes[..n]);
         Salt {
             length: self.length,
-            bytes: bytes,
+            bytes,
         }
     }
 }
 
-#[tactic(auto, using(crate::proofs::Laws::same_salt_other_length))]
 fn same_salt(a: Salt, b: Salt) -> bool
     ensures { result ≡ same_salt a b }
 {
-    if a.length != b.length {
-        return false;
-    }
-    basics::same(&a.bytes, &b.bytes)
+    a.length == b.length && basics::same(&a.bytes, &b.bytes)
 }
 
 impl Failures {

@@ -21,19 +21,15 @@ impl RotationWait {
     pub fn after(self, asks: bool) -> RotationWait
         ensures { result ≡ wait_after asks self }
     {
-        if asks {
-            return RotationWait { on: true };
+        RotationWait {
+            on: asks || self.on,
         }
-        self
     }
 
     // Whether a device can have this wait beside this guard: only bytes from elsewhere count failures while it is on.
     pub fn is_uncounted(self, guard: Guard) -> bool
         ensures { result ≡ uncounted self guard }
     {
-        if self.on {
-            return guard.failures.count == 0;
-        }
-        true
+        !self.on || guard.failures.count == 0
     }
 }

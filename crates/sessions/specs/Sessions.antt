@@ -1,10 +1,11 @@
 -- Document 01, "The device and its events": links, stages and their timers.
 -- Assumes nothing.
-use Rattle.std.specs.Prelude.{Bool, true, false, [], map, ◌≡◌, ℕ, ◌-◌, leb, eqb, get_or, set, replicate, if◌then◌else◌}
+use Rattle.std.specs.Prelude.{Bool, true, false, [], map, ◌≡◌, ℕ, ◌-◌, ◌<◌, leb, eqb, get_or, set, replicate, if◌then◌else◌, Result, Ok, Err}
 use Rattle.laws.specs.Choice.{◌and◌}
 use Rattle.sessions.specs.declared.Session.{Session}
 use Rattle.sessions.specs.declared.Sessions.{Sessions}
 use Rattle.sessions.specs.declared.Stage.{Stage}
+use Rattle.sessions.specs.declared.UnknownStage.{UnknownStage}
 use Rattle.sessions.specs.declared.Stage.TheVariants.{Idle, Asked, Pairing, Confirming, Proved, Paired}
 
 -- "Eight links, 0 to 7"
@@ -36,6 +37,11 @@ stage_number Pairing = 2
 stage_number Confirming = 3
 stage_number Proved = 4
 stage_number Paired = 5
+
+-- what a number is read as: the stage that has it, or no stage, past the last one's
+abbrev pub IsStageOf : ℕ → Result Stage UnknownStage → Type 0
+IsStageOf n (Ok stage) = stage_number stage ≡ n
+IsStageOf n (Err unknown) = (unknown.0 ≡ n) × (stage_number Paired < n)
 
 abbrev pub is_stage : Stage → Stage → Bool
 is_stage x y = eqb (stage_number x) (stage_number y)

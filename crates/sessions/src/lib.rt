@@ -2,7 +2,7 @@
 #![tactic(auto)]
 
 ghost use Rattle.std.specs.Prelude.{◌≡◌, ◌<◌, length};
-ghost use Rattle.sessions.specs.Sessions.{link_count, stage_number, is_stage, becomes, idle, has_timer, at_clock, all_idle, session_at, with_session, expired};
+ghost use Rattle.sessions.specs.Sessions.{link_count, stage_number, IsStageOf, is_stage, becomes, idle, has_timer, at_clock, all_idle, session_at, with_session, expired};
 
 use basics::{Link, Moment};
 
@@ -13,7 +13,7 @@ pub const LINKS: usize = 8;
 const TIME_LIMIT: u64 = 10000;
 
 // Document 01's stages; an idle link is in none.
-#[derive(Clone, Copy)]
+#[derive(Clone, Copy, PartialEq, Eq)]
 pub enum Stage {
     Idle,
     Asked,
@@ -38,6 +38,51 @@ pub struct Sessions {
     pub links: [Session; LINKS],
 }
 
+impl Stage {
+    // Pairing and proved have no timer, and an idle link has none.
+    fn timed(self) -> bool
+        ensures { result ≡ has_timer self }
+    {
+        matches!(self, Stage::Asked | Stage::Confirming | Stage::Paired)
+    }
+
+    // The number of a stage, as C is handed it.
+    pub fn number(self) -> u8
+        ensures { result ≡ stage_number self }
+    {
+        match self {
+            Stage::Idle => 0,
+            Stage::Asked => 1,
+            Stage::Pairing => 2,
+            Stage::Confirming => 3,
+            Stage::Proved => 4,
+            Stage::Paired => 5,
+        }
+    }
+}
+
+// A number that no stage has.
+#[derive(Clone, Copy, PartialEq, Eq)]
+pub struct UnknownStage(pub u8);
+
+impl TryFrom<u8> for Stage {
+    type Error = UnknownStage;
+
+    ghost try_from_gives = { IsStageOf };
+
+    fn try_from(number: u8) -> Result<Stage, UnknownStage> {
+        match number {
+            0 => Ok(Stage::Idle),
+            1 => Ok(Stage::Asked),
+            2 => Ok(Stage::Pairing),
+            3 => Ok(Stage::Confirming),
+            4 => Ok(Stage::Proved),
+            5 => Ok(Stage::Paired),
+            _ => Err(UnknownStage(number)),
+        }
+    }
+}
+
 impl Session {
     pub fn idle() -> Session
         ensures { result ≡ idle }
@@ -54,33 +99,27 @@ impl Session {
     pub fn is_in(self, stage: Stage) -> bool
         ensures { result ≡ is_stage self.stage stage }
     {
-        let now = self.stage;
-        number(now) == number(stage)
+        self.stage == stage
     }
 
     // The session in its next stage, which begins at a moment.
     pub fn moved(self, stage: Stage, now: Moment) -> Session
         ensures { result ≡ becomes stage now.0 self }
     {
-        let key = self.key;
         Session {
-            stage: stage,
-            key: key,
+            stage,
             since: now,
             passkey: 0,
+            ..self
         }
     }
 
     // The session as it stands at a moment: a timed stage that began 10,000 ms ago has lapsed.
+    #[tactic(auto, unfolding(crate::specs::Sessions::at_clock))]
     fn at_clock(self, now: Moment) -> Session
         ensures { result ≡ at_clock now.0 self }
     {
-        let stage = self.stage;
-        let since = self.since;
-        if !timed(stage) {
-            return self;
-        }
-        if basics::ago(now, since) < TIME_LIMIT {
+        if !self.stage.timed() || basics::ago(now, self.since) < TIME_LIMIT {
             return self;
         }
         Session::idle()
@@ -100,16 +139,14 @@ impl Sessions {
         requires { link.0 < link_count }
         ensures { result ≡ session_at self link.0 }
     {
-        let i = link.0 as usize;
-        self.links[i]
+        self.links[link.0 as usize]
     }
 
     pub fn with(mut self, link: Link, session: Session) -> Sessions
         requires { link.0 < link_count }
         ensures { result ≡ with_session self link.0 session }
     {
-        let i = link.0 as usize;
-        self.links[i] = session;
+        self.links[link.0 as usize] = session;
         self
     }
 
@@ -118,39 +155,9 @@ impl Sessions {
         requires { length self.links ≡ link_count }
         ensures { result ≡ expired now.0 self }
     {
-        let mut i = 0;
-        while i < LINKS {
-            let session = self.links[i];
-            self.links[i] = session.at_clock(now);
-            i += 1;
+        for session in self.links.iter_mut() {
+            *session = session.at_clock(now);
         }
         self
-    }
-}
-
-fn timed(stage: Stage) -> bool
-    ensures { result ≡ has_timer stage }
-{
-    match stage {
-        Stage::Idle => false,
-        Stage::Asked => true,
-        Stage::Pairing => false,
-        Stage::Confirming => true,
-        Stage::Proved => false,
-        Stage::Paired => true,
-    }
-}
-
-// The number of a stage, as it is compared and handed to C.
-pub fn number(stage: Stage) -> u8
-    ensures { result ≡ stage_number stage }
-{
-    match stage {
-        Stage::Idle => 0,
-        Stage::Asked => 1,
-        Stage::Pairing => 2,
-        Stage::Confirming => 3,
-        Stage::Proved => 4,
-        Stage::Paired => 5,
     }
 }

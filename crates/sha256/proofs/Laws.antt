@@ -3,9 +3,11 @@
 use Rattle.std.proofs.Common.{◌≡◌, ℕ, zero, suc, ◌+◌, ◌-◌, ◌*◌, ◌/◌, ◌%◌, ◌^◌, ◌<◌, ◌≤◌, List, [], ◌∷◌, ◌++◌, length, get_or, take, drop, set, replicate, sym, refl, ap, ◌∙◌, append_assoc, add-zero, add-suc, mod-lt, add-mul, add-one, arith, lit<, length-append, length-drop, drop_of_length-le, drop-drop}
 use native.Mathlib.Numerals.{add-two, add-three, add-four}
 use lib.ListN.{length-replicate, get_or-append}
-use lib.Seq.{drop-append-le, take-append-le, paste}
-use Rattle.laws.proofs.Lists.{take_drop_rest}
-use Rattle.laws.proofs.Padded.{padded_full, take_padded, set_padded, paste_padded, padded_replicate}
+use lib.Seq.{drop-append-le, take-append-le, drop_at, take_at}
+use borrow.Rule.Slice.PartMut.{put_mid}
+use Rattle.std.specs.Int.{next_multiple_of}
+use Rattle.laws.proofs.Lists.{drop_replicate}
+use Rattle.laws.proofs.Padded.{padded_full, take_padded, set_padded, padded_replicate}
 use Rattle.laws.specs.BigEndian.{bytes}
 use Rattle.laws.specs.Lists.{padded}
 use Rattle.sha256.specs.Compression.{next_word, schedule, round, rounds, compress}
@@ -66,11 +68,6 @@ pub rounds_more : (p : Hash) (w : List ℕ) (i : ℕ) {s₀ s₁ s₂ s₃ s₄ 
 unfolding rounds
 rounds_more p w i e₀ e₁ e₂ e₃ e₄ = rw (e₄, e₃, e₂, e₁, e₀, add-four, add-three, add-two, add-one)
 
-pub hashed_more : (p : Hash) (m : List ℕ) (i : ℕ) {b : List ℕ} {s r : Hash} → s ≡ hashed p m i → b ≡ block m i
-    → r ≡ compress s b → r ≡ hashed p m (i + 1)
-unfolding hashed
-hashed_more p m i e f g = rw (g, e, f, add-one)
-
 -- the blocks from the i-th on are those of what is left after i blocks
 block_drop : (x : List ℕ) (i j : ℕ) → block x (i + j) ≡ block (drop (i * 64) x) j
 unfolding block
@@ -96,10 +93,18 @@ unfolding hashed
 hashed_append p a b zero h = refl
 hashed_append p a b (suc i) h = rw (block_append a b i h, hashed_append p a b i (omega arith))
 
--- the part of the message that a turn of the loop lends
-pub block_lent : (m : List ℕ) (i : ℕ) → take (i * 64 + 64 - i * 64) (drop (i * 64) m) ≡ block m i
-unfolding block
-block_lent m i = let e : i * 64 + 64 - i * 64 ≡ 64 = omega arith in rw e
+-- a message that begins with a block b is hashed by that block, and then what is left
+pub hashed_front : (p : Hash) (b r : List ℕ) {l : List ℕ} {s : Hash} → l ≡ b ++ r → length b ≡ 64 → s ≡ compress p b
+    → hashed s r (length r / 64) ≡ hashed p l (length l / 64)
+unfolding hashed block
+hashed_front p b r {l} {s} e k q =
+    let n : length (b ++ r) / 64 ≡ 1 + length r / 64 = simp length-append (omega arith) in
+    rw (q, e, n, hashed_drop p (b ++ r) 1 (length r / 64), drop_at b r 64 k, take_at b r 64 k)
+
+-- less than a block is left
+pub hashed_end : (p : Hash) (r : List ℕ) → length r < 64 → hashed p r (length r / 64) ≡ p
+unfolding hashed
+hashed_end p r h = let n : length r / 64 ≡ 0 = omega arith in rw n
 
 -- ---- the last blocks
 
@@ -108,7 +113,7 @@ abbrev zeros : ℕ → ℕ
 zeros r = (119 - r) % 64
 
 -- the blocks end 8 bytes behind those zeros
-blocks_end : (r : ℕ) → r < 64 → (r + 72) / 64 * 64 ≡ r + 1 + zeros r + 8
+blocks_end : (r : ℕ) → r < 64 → next_multiple_of (r + 9) 64 ≡ r + 1 + zeros r + 8
 blocks_end r h = omega arith
 
 length_padding : (n : ℕ) → length (padding n) ≡ 1 + zeros (n % 64) + 8
@@ -120,47 +125,58 @@ module _ (rest : List ℕ) (n : ℕ) (left : length rest ≡ n % 64) where
   short : length rest < 64
   short = rw left (mod-lt n (lit< tt))
 
-  ends : (length rest + 72) / 64 * 64 ≡ length (rest ++ padding n)
+  ends : next_multiple_of (length rest + 9) 64 ≡ length (rest ++ padding n)
   ends =
       blocks_end (length rest) short
       ∙ sym (length-append rest (padding n) ∙ rw (length_padding n, ← left) (omega arith))
 
   -- two blocks are enough
   pub two_blocks : length (rest ++ padding n) ≤ 128
-  two_blocks = rw (← ends) (omega (arith, short))
+  two_blocks = rw (← ends) (omega (arith, short, blocks_end (length rest) short))
 
   -- followed by the bit "1" and zeros
   abbrev begun : List ℕ
   begun = (rest ++ (0x80 ∷ [])) ++ replicate (zeros (length rest)) 0
 
-  bit-stored : set (paste (replicate 128 0) 0 rest (length rest)) (length rest) 0x80 ≡ padded 128 0 begun
+  bit-stored : set (rest ++ drop (length rest) (replicate 128 0)) (length rest) 0x80 ≡ padded 128 0 begun
   bit-stored =
-      rw (paste_padded 128 0 [] rest 0 refl) (set_padded 128 0 rest (length rest) 0x80 refl (omega (arith, short)))
+      rw (drop_replicate {A = ℕ} (length rest) 128 0) (set_padded 128 0 rest (length rest) 0x80 refl (omega (arith, short)))
       ∙ sym (padded_replicate 128 0 (rest ++ (0x80 ∷ [])) (zeros (length rest))
       (simp length-append (omega (arith, short))))
 
   -- the length of the message behind those
-  length-stored : (count : List ℕ) → count ≡ bytes 8 (n * 8 % 2 ^ 64)
-      → paste (set (paste (replicate 128 0) 0 rest (length rest)) (length rest) 0x80)
-      ((length rest + 72) / 64 * 64 - 8) count (length count) ≡ padded 128 0 (rest ++ padding n)
+  length-stored : (count : List ℕ) (end : ℕ) → count ≡ bytes 8 (n * 8 % 2 ^ 64)
+      → end ≡ next_multiple_of (length rest + 9) 64
+      → put_mid (end - 8) (end - (end - 8)) (padded 128 0 begun) count ≡ padded 128 0 (rest ++ padding n)
   unfolding padding
-  length-stored count e =
-      let at : length begun ≡ (length rest + 72) / 64 * 64 - 8 = simp (length-append, length-replicate)
+  length-stored count end e f =
+      let at : length begun ≡ end - 8 = simp (length-append, length-replicate)
       (omega (arith, blocks_end (length rest) short)) in
+      let long : length count ≡ end - (end - 8) = rw e (omega (arith, blocks_end (length rest) short)) in
       let all : begun ++ count ≡ rest ++ padding n =
       append_assoc (rest ++ (0x80 ∷ [])) (replicate (zeros (length rest)) 0) count
       ∙ append_assoc rest (0x80 ∷ []) (replicate (zeros (length rest)) 0 ++ count) ∙ rw (e, left)
       in
-      rw (bit-stored, paste_padded 128 0 begun count ((length rest + 72) / 64 * 64 - 8) at) (ap (padded 128 0) all)
+      let behind : 128 - length begun - length count ≡ 128 - length (begun ++ count) = simp length-append (omega arith) in
+      rw (
+        take_at begun (replicate (128 - length begun) 0) (end - 8) at,
+        drop_at begun (replicate (128 - length begun) 0) (end - 8) at,
+        drop_replicate {A = ℕ} (end - (end - 8)) (128 - length begun) 0,
+        ← long,
+        behind,
+        ← append_assoc begun count (replicate (128 - length (begun ++ count)) 0),
+      )
+      (ap (padded 128 0) all)
 
-  pub last_blocks_lem : (count : List ℕ) → count ≡ bytes 8 (n * 8 % 2 ^ 64)
+  pub last_blocks_lem : {front count : List ℕ} {end : ℕ} → front ≡ rest → count ≡ bytes 8 (n * 8 % 2 ^ 64)
+      → end ≡ next_multiple_of (length rest + 9) 64
       → ◌≡◌ {A = LastBlocks} (record {
-        bytes = paste (set (paste (replicate 128 0) 0 rest (length rest)) (length rest) 0x80)
-            ((length rest + 72) / 64 * 64 - 8) count (length count);
-        end = (length rest + 72) / 64 * 64;
+        bytes = put_mid (end - 8) (end - (end - 8)) (set (front ++ drop (length rest) (replicate 128 0)) (length rest) 0x80) count;
+        end = end;
       })
       (last_blocks rest n)
-  last_blocks_lem count e = λ i. record { bytes = length-stored count e i; end = ends i }
+  last_blocks_lem {front} {count} {end} d e f =
+      rw (d, bit-stored, length-stored count end e f, f, ends)
 
 -- a message is hashed in two parts, the first of i whole blocks
 hashed_parts : (p : Hash) (m t : List ℕ) (i : ℕ) → i * 64 ≤ length m
@@ -173,31 +189,22 @@ hashed_parts p m t i h =
     (hashed_drop p (m ++ t) i (length (drop (i * 64) m ++ t) / 64)
     ∙ rw (hashed_append p m t i h, drop-append-le (i * 64) m t h))
 
--- the last bytes of a message of n bytes that ends with m, as they are lent
+-- the last bytes of a message of n bytes that ends with m
 module _ (m : List ℕ) (n : ℕ) (ends-m : length m % 64 ≡ n % 64) {last : LastBlocks} (e : last ≡ last_blocks
-    (take (length m - (length m - length m % 64)) (drop (length m - length m % 64) m)) n) where
-  rest : List ℕ
-  rest = drop (length m - length m % 64) m
-
-  left : length rest ≡ n % 64
-  unfolding rest
+    (drop (length m - length m % 64) m) n) where
+  left : length (drop (length m - length m % 64) m) ≡ n % 64
   left = simp length-drop (omega arith)
 
-  last_is : last ≡ last_blocks rest n
-  unfolding rest
-  last_is = e ∙ rw (take_drop_rest (length m - length m % 64) m)
-
   pub end_within : last.end ≤ 128
-  end_within = rw last_is (two_blocks rest n left)
+  end_within = rw e (two_blocks (drop (length m - length m % 64) m) n left)
 
   -- the digest is that of the whole blocks of m and then of the last blocks
   pub digest_two_parts : (h : Hash) {p : Hash} → p ≡ hashed h m (length m / 64)
       → joined (hashed p (take last.end last.bytes) (length (take last.end last.bytes) / 64))
       ≡ digest_rest h m n
-  unfolding rest
   digest_two_parts h q =
       let whole : length m - length m % 64 ≡ length m / 64 * 64 = omega arith in
-      ap joined (rw (q, last_is, take_padded 128 0 (rest ++ padding n), whole)
+      ap joined (rw (q, e, take_padded 128 0 (drop (length m - length m % 64) m ++ padding n), whole)
       (sym (hashed_parts h m (padding n) (length m / 64) (omega arith))))
 
 -- the digest of a block b and then m

@@ -5,7 +5,7 @@ ghost use Rattle.sha256.specs.Compression as spec;
 ghost use Rattle.sha256.specs.Steps.{message_words};
 
 use crate::Hash;
-use crate::functions::{add, big_sigma0, big_sigma1, ch, maj, small_sigma0, small_sigma1};
+use crate::functions::{big_sigma0, big_sigma1, ch, maj, small_sigma0, small_sigma1};
 
 const K: [u32; 64] = [
     0x428a2f98, 0x71374491, 0xb5c0fbcf, 0xe9b5dba5, 0x3956c25b, 0x59f111f1, 0x923f82a4, 0xab1c5ed5,
@@ -18,6 +18,7 @@ const K: [u32; 64] = [
     0x748f82ee, 0x78a5636f, 0x84c87814, 0x8cc70208, 0x90befffa, 0xa4506ceb, 0xbef9a3f7, 0xc67178f2,
 ];
 
+#[tactic(auto, unfolding(crate::specs::Compression::compress, crate::specs::Compression::added))]
 pub fn compress(p: Hash, block: &[u8]) -> Hash
     requires { length block.now ≡ 64 }
     ensures { result ≡ spec.compress p block.now }
@@ -25,14 +26,14 @@ pub fn compress(p: Hash, block: &[u8]) -> Hash
     let w = schedule(block);
     let s = rounds(p, w);
     Hash {
-        a: add(s.a, p.a),
-        b: add(s.b, p.b),
-        c: add(s.c, p.c),
-        d: add(s.d, p.d),
-        e: add(s.e, p.e),
-        f: add(s.f, p.f),
-        g: add(s.g, p.g),
-        h: add(s.h, p.h),
+        a: s.a.wrapping_add(p.a),
+        b: s.b.wrapping_add(p.b),
+        c: s.c.wrapping_add(p.c),
+        d: s.d.wrapping_add(p.d),
+        e: s.e.wrapping_add(p.e),
+        f: s.f.wrapping_add(p.f),
+        g: s.g.wrapping_add(p.g),
+        h: s.h.wrapping_add(p.h),
     }
 }
 
@@ -41,16 +42,11 @@ fn schedule(block: &[u8]) -> [u32; 64]
     ensures { result ≡ spec.schedule block.now 48 }
 {
     let mut w = message_words(block);
-    let mut i = 0;
-    while i < 48 {
-        w[i + 16] = add(
-            add(
-                add(small_sigma1(w[i + 14]), w[i + 9]),
-                small_sigma0(w[i + 1]),
-            ),
-            w[i],
-        );
-        i += 1;
+    for i in 0..48 {
+        w[i + 16] = small_sigma1(w[i + 14])
+            .wrapping_add(w[i + 9])
+            .wrapping_add(small_sigma0(w[i + 1]))
+            .wrapping_add(w[i]);
     }
     w
 }
@@ -61,10 +57,8 @@ fn message_words(block: &[u8]) -> [u32; 64]
     ensures { result ≡ message_words block.now }
 {
     let mut w = [0u32; 64];
-    let mut i = 0;
-    while i < 16 {
+    for i in 0..16 {
         w[i] = word_at(block, i);
-        i += 1;
     }
     w
 }
@@ -74,22 +68,19 @@ fn word_at(b: &[u8], i: usize) -> u32
     ensures { result ≡ word b.now i }
 {
     let at = i * 4;
-    (b[at] as u32) << 24 | (b[at + 1] as u32) << 16 | (b[at + 2] as u32) << 8 | (b[at + 3] as u32)
+    u32::from_be_bytes([b[at], b[at + 1], b[at + 2], b[at + 3]])
 }
 
 // Four rounds to a turn: a round renames six of the eight variables, and four in a row spare most of the moves.
 fn rounds(p: Hash, w: [u32; 64]) -> Hash
     ensures { result ≡ spec.rounds p w 64 }
 {
-    let k = &K;
     let mut s = p;
-    let mut i = 0;
-    while i < 64 {
-        s = round(s, k[i], w[i]);
-        s = round(s, k[i + 1], w[i + 1]);
-        s = round(s, k[i + 2], w[i + 2]);
-        s = round(s, k[i + 3], w[i + 3]);
-        i += 4;
+    for i in (0..64).step_by(4) {
+        s = round(s, K[i], w[i]);
+        s = round(s, K[i + 1], w[i + 1]);
+        s = round(s, K[i + 2], w[i + 2]);
+        s = round(s, K[i + 3], w[i + 3]);
     }
     s
 }
@@ -98,13 +89,13 @@ fn round(s: Hash, k: u32, w: u32) -> Hash
     ensures { result ≡ spec.round s k w }
 {
     let t1 = temp1(s, k, w);
-    let t2 = add(big_sigma0(s.a), maj(s.a, s.b, s.c));
+    let t2 = big_sigma0(s.a).wrapping_add(maj(s.a, s.b, s.c));
     Hash {
-        a: add(t1, t2),
+        a: t1.wrapping_add(t2),
         b: s.a,
         c: s.b,
         d: s.c,
-        e: add(s.d, t1),
+        e: s.d.wrapping_add(t1),
         f: s.e,
         g: s.f,
         h: s.g,
@@ -115,5 +106,8 @@ fn round(s: Hash, k: u32, w: u32) -> Hash
 fn temp1(s: Hash, k: u32, w: u32) -> u32
     ensures { result ≡ spec.T₁ s k w }
 {
-    add(add(add(add(s.h, big_sigma1(s.e)), ch(s.e, s.f, s.g)), k), w)
+    s.h.wrapping_add(big_sigma1(s.e))
+        .wrapping_add(ch(s.e, s.f, s.g))
+        .wrapping_add(k)
+        .wrapping_add(w)
 }

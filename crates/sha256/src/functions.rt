@@ -1,12 +1,6 @@
-// FIPS 180-4, §4.1.2: the six functions of SHA-256, and the sum of two words.
+// FIPS 180-4, §4.1.2: the six functions of SHA-256. Rotations are by shifts, the form that document 01 names.
 ghost use Rattle.std.specs.Prelude.{◌≡◌};
-ghost use Rattle.sha256.specs.Functions.{◌⊞◌, Ch, Maj, Σ₀, Σ₁, σ₀, σ₁};
-
-pub fn add(x: u32, y: u32) -> u32
-    ensures { result ≡ x ⊞ y }
-{
-    std::num::wrapping_add_u32(x, y)
-}
+ghost use Rattle.sha256.specs.Functions.{Ch, Maj, Σ₀, Σ₁, σ₀, σ₁};
 
 pub fn ch(x: u32, y: u32, z: u32) -> u32
     ensures { result ≡ Ch x y z }

@@ -51,13 +51,9 @@ fn digest_rest(h: Hash, rest: &[u8], n: usize) -> [u8; 32]
     requires { length rest.now % 64 ≡ n % 64 }
     ensures { result ≡ digest_rest h rest.now n }
 {
-    let size = rest.len();
-    let whole = size - size % 64;
     let s = absorb(h, rest);
-    let last = last_blocks(&rest[whole..], n);
-    let end = last.end;
-    let blocks = last.bytes;
-    to_bytes(absorb(s, &blocks[..end]))
+    let last = last_blocks(rest.chunks_exact(64).remainder(), n);
+    to_bytes(absorb(s, &last.bytes[..last.end]))
 }
 
 fn initial() -> Hash
@@ -79,14 +75,9 @@ fn initial() -> Hash
 fn absorb(h: Hash, src: &[u8]) -> Hash
     ensures { result ≡ hashed h src.now (length src.now / 64) }
 {
-    let n = src.len() / 64;
     let mut s = h;
-    let mut i = 0;
-    while i < n {
-        let at = i * 64;
-        let end = at + 64;
-        s = compression::compress(s, &src[at..end]);
-        i += 1;
+    for block in src.chunks_exact(64) {
+        s = compression::compress(s, block);
     }
     s
 }
@@ -97,69 +88,26 @@ fn last_blocks(rest: &[u8], n: usize) -> LastBlocks
     ensures { result ≡ last_blocks rest.now n }
 {
     let used = rest.len();
-    let end = (used + 72) / 64 * 64;
-    let mut blocks = put([0u8; 128], 0, rest);
-    blocks[used] = 0x80;
-    let count = length_bytes(n);
-    let full = put(blocks, end - 8, &count);
-    LastBlocks {
-        bytes: full,
-        end: end,
-    }
-}
-
-// `src` copied into `blocks` from `at` on.
-fn put(mut blocks: [u8; 128], at: usize, src: &[u8]) -> [u8; 128]
-    requires { at + length src.now ≤ 128 }
-    ensures { result ≡ paste blocks at src.now (length src.now) }
-{
-    let mut i = 0;
-    while i < src.len() {
-        blocks[at + i] = src[i];
-        i += 1;
-    }
-    blocks
-}
-
-// The number of bits in `n` bytes, as the padding ends with it.
-fn length_bytes(n: usize) -> [u8; 8]
-    ensures { result ≡ bytes 8 (n * 8 % 2 ^ 64) }
-{
-    let bits = n << 3;
-    [
-        ((bits >> 56) % 256) as u8,
-        ((bits >> 48) % 256) as u8,
-        ((bits >> 40) % 256) as u8,
-        ((bits >> 32) % 256) as u8,
-        ((bits >> 24) % 256) as u8,
-        ((bits >> 16) % 256) as u8,
-        ((bits >> 8) % 256) as u8,
-        (bits % 256) as u8,
-    ]
+    let end = (used + 9).next_multiple_of(64);
+    let mut bytes = [0u8; 128];
+    bytes[..used].copy_from_slice(rest);
+    bytes[used] = 0x80;
+    bytes[end - 8..end].copy_from_slice(&(n << 3).to_be_bytes());
+    LastBlocks { bytes, end }
 }
 
 // H0 to H7, one after the other.
 fn to_bytes(s: Hash) -> [u8; 32]
     ensures { result ≡ joined s }
 {
-    let a = put_word([0u8; 32], 0, s.a);
-    let b = put_word(a, 4, s.b);
-    let c = put_word(b, 8, s.c);
-    let d = put_word(c, 12, s.d);
-    let e = put_word(d, 16, s.e);
-    let f = put_word(e, 20, s.f);
-    let g = put_word(f, 24, s.g);
-    put_word(g, 28, s.h)
-}
-
-// The four bytes of `x`, put into `out` from `at` on.
-fn put_word(mut out: [u8; 32], at: usize, x: u32) -> [u8; 32]
-    requires { at + 4 ≤ 32 }
-    ensures { result ≡ paste out at (bytes 4 x) 4 }
-{
-    out[at] = ((x >> 24) % 256) as u8;
-    out[at + 1] = ((x >> 16) % 256) as u8;
-    out[at + 2] = ((x >> 8) % 256) as u8;
-    out[at + 3] = (x % 256) as u8;
+    let mut out = [0u8; 32];
+    out[0..4].copy_from_slice(&s.a.to_be_bytes());
+    out[4..8].copy_from_slice(&s.b.to_be_bytes());
+    out[8..12].copy_from_slice(&s.c.to_be_bytes());
+    out[12..16].copy_from_slice(&s.d.to_be_bytes());
+    out[16..20].copy_from_slice(&s.e.to_be_bytes());
+    out[20..24].copy_from_slice(&s.f.to_be_bytes());
+    out[24..28].copy_from_slice(&s.g.to_be_bytes());
+    out[28..32].copy_from_slice(&s.h.to_be_bytes());
     out
 }

@@ -13,7 +13,7 @@ pub fn run(rt: &HostRuntime) {
         no_keys(),
         *b"\x11\x22\x33\x44\x55\x66\x77\x88\x99\x00\xaa\xbb\xcc\xdd\xee\xff",
     );
-    payload(rt, b"payload, one key", one);
+    payload(rt, "payload, one key", one);
     let first = with_key(
         no_keys(),
         *b"\x11\x11\x22\x22\x33\x33\x44\x44\x55\x55\x66\x66\x77\x77\x88\x88",
@@ -22,7 +22,7 @@ pub fn run(rt: &HostRuntime) {
         first,
         *b"\x99\x99\x00\x00\xaa\xaa\xbb\xbb\xcc\xcc\xdd\xdd\xee\xee\xff\xff",
     );
-    payload(rt, b"payload, two keys", two);
+    payload(rt, "payload, two keys", two);
 }
 
 fn no_keys() -> AccountKeys
@@ -35,15 +35,15 @@ fn with_key(keys: AccountKeys, bytes: [u8; 16]) -> AccountKeys
     requires { Kept keys }
     ensures { (result ≡ kept (stored (held keys) (record { bytes = bytes }))) × Kept result }
 {
-    keys.store(AccountKey { bytes: bytes })
+    keys.store(AccountKey { bytes })
 }
 
 // One line: an output of 24 bytes, which held EE before.
-fn payload(rt: &HostRuntime, name: &[u8], keys: AccountKeys)
+fn payload(rt: &HostRuntime, name: &str, keys: AccountKeys)
     requires { Kept keys }
 {
-    let mut out = [0xEEu8; 24];
-    let beacon = Beacon::new(Address { bytes: [0u8; 6] }, [0xC7, 0xC8], keys);
-    beacon.payload([0x12, 0x34, 0x56], keys.count, Prompt::Show, &mut out);
+    let mut out = [0xEE; 24];
+    let beacon = Beacon::new(Address { bytes: [0; 6] }, [0xC7, 0xC8], keys);
+    let _ = beacon.payload([0x12, 0x34, 0x56], keys.count, Prompt::Show, &mut out);
     line(rt, name, &out);
 }

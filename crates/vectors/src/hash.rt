@@ -8,11 +8,11 @@ pub fn run(rt: &HostRuntime) {
 
 // The messages of FIPS 180-4.
 fn published(rt: &HostRuntime) {
-    message(rt, b"FIPS 180-4 empty", b"");
-    message(rt, b"FIPS 180-4 abc", b"abc");
+    message(rt, "FIPS 180-4 empty", b"");
+    message(rt, "FIPS 180-4 abc", b"abc");
     message(
         rt,
-        b"FIPS 180-4 448 bits",
+        "FIPS 180-4 448 bits",
         b"abcdbcdecdefdefgefghfghighijhijkijkljklmklmnlmnomnopnopq",
     );
     million(rt, &[b'a'; 1000000]);
@@ -22,44 +22,39 @@ fn published(rt: &HostRuntime) {
 // whole block; and a long message.
 fn lengths(rt: &HostRuntime) {
     let bytes = pattern();
-    first(rt, b"SHA-256 of 55 bytes", &bytes, 55);
-    first(rt, b"SHA-256 of 56 bytes", &bytes, 56);
-    first(rt, b"SHA-256 of 63 bytes", &bytes, 63);
-    first(rt, b"SHA-256 of 64 bytes", &bytes, 64);
-    first(rt, b"SHA-256 of 65 bytes", &bytes, 65);
-    first(rt, b"SHA-256 of 119 bytes", &bytes, 119);
-    first(rt, b"SHA-256 of 120 bytes", &bytes, 120);
-    first(rt, b"SHA-256 of 4000 bytes", &bytes, 4000);
+    for (name, length) in [
+        ("SHA-256 of 55 bytes", 55),
+        ("SHA-256 of 56 bytes", 56),
+        ("SHA-256 of 63 bytes", 63),
+        ("SHA-256 of 64 bytes", 64),
+        ("SHA-256 of 65 bytes", 65),
+        ("SHA-256 of 119 bytes", 119),
+        ("SHA-256 of 120 bytes", 120),
+        ("SHA-256 of 4000 bytes", 4000),
+    ] {
+        if let Some(front) = bytes.get(..length) {
+            message(rt, name, front);
+        }
+    }
 }
 
 // One line: the hash of a message.
-fn message(rt: &HostRuntime, name: &[u8], msg: &[u8]) {
-    let hash = sha256::digest(msg);
-    line(rt, name, &hash);
+fn message(rt: &HostRuntime, name: &str, message: &[u8]) {
+    line(rt, name, &sha256::digest(message));
 }
 
 // One line: the hash of FIPS 180-4's long message.
-fn million(rt: &HostRuntime, msg: &[u8; 1000000]) {
-    message(rt, b"FIPS 180-4 a million a", msg);
-}
-
-// One line: the hash of the first n bytes.
-fn first(rt: &HostRuntime, name: &[u8], bytes: &[u8; 4000], n: usize) {
-    let all: &[u8] = bytes;
-    if n <= all.len() {
-        message(rt, name, &all[0..n]);
-    }
+fn million(rt: &HostRuntime, letters: &[u8; 1000000]) {
+    message(rt, "FIPS 180-4 a million a", letters);
 }
 
 // Byte i is (7 i + 3) mod 256.
 fn pattern() -> [u8; 4000] {
-    let mut bytes = [0u8; 4000];
+    let mut bytes = [0; 4000];
     let mut next = 3u8;
-    let mut i = 0;
-    while i < 4000 {
-        bytes[i] = next;
-        next = std::num::wrapping_add_u8(next, 7);
-        i += 1;
+    for byte in bytes.iter_mut() {
+        *byte = next;
+        next = next.wrapping_add(7);
     }
     bytes
 }

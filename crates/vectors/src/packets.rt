@@ -1,79 +1,77 @@
 // Packets of names: the one that the Fast Pair specification publishes, names whose lengths lie around the ends of blocks, and
 // packets with one bit changed. The key and the nonce are the specification's.
-ghost use Rattle.std.specs.Prelude.{◌≡◌, ◌<◌, ◌≤◌, length, take};
-ghost use Rattle.additional_data.specs.Packet as packet;
-ghost use Rattle.names.specs.Name.{reading, Valid};
+ghost use Rattle.std.specs.Prelude.{IfSome};
+ghost use Rattle.names.specs.Name.{Valid};
 
 use crate::hex::line;
-use names::{Name, NameReading};
+use names::Name;
+
+const KEY: [u8; 16] = *b"\x01\x23\x45\x67\x89\xab\xcd\xef\x01\x23\x45\x67\x89\xab\xcd\xef";
+
+const NONCE: [u8; 8] = *b"\x00\x01\x02\x03\x04\x05\x06\x07";
 
 pub fn run(rt: &HostRuntime) {
+    sealed(rt, "Fast Pair packet", b"Someone's Google Headphone");
     let letters = b"abcdefghijklmnopqrstuvwxyzabcdefghijklmnopqrstuvwxyzabcdefghijkl";
-    sealed(rt, b"Fast Pair packet", published());
-    sealed(rt, b"packet of 0 bytes", first(letters, 0));
-    sealed(rt, b"packet of 1 byte", first(letters, 1));
-    sealed(rt, b"packet of 15 bytes", first(letters, 15));
-    sealed(rt, b"packet of 16 bytes", first(letters, 16));
-    sealed(rt, b"packet of 17 bytes", first(letters, 17));
-    sealed(rt, b"packet of 63 bytes", first(letters, 63));
-    sealed(rt, b"packet of 64 bytes", first(letters, 64));
-    changed(rt, b"Fast Pair packet, first byte of the tag changed", 0);
-    changed(rt, b"Fast Pair packet, last byte of the tag changed", 7);
-    changed(rt, b"Fast Pair packet, nonce changed", 15);
-    changed(rt, b"Fast Pair packet, last byte changed", 41);
+    for (label, length) in [
+        ("packet of 0 bytes", 0),
+        ("packet of 1 byte", 1),
+        ("packet of 15 bytes", 15),
+        ("packet of 16 bytes", 16),
+        ("packet of 17 bytes", 17),
+        ("packet of 63 bytes", 63),
+        ("packet of 64 bytes", 64),
+    ] {
+        if let Some(text) = letters.get(..length) {
+            sealed(rt, label, text);
+        }
+    }
+    for (label, at) in [
+        ("Fast Pair packet, first byte of the tag changed", 0),
+        ("Fast Pair packet, last byte of the tag changed", 7),
+        ("Fast Pair packet, nonce changed", 15),
+        ("Fast Pair packet, last byte changed", 41),
+    ] {
+        changed(rt, label, at);
+    }
 }
 
-fn key() -> [u8; 16] {
-    *b"\x01\x23\x45\x67\x89\xab\xcd\xef\x01\x23\x45\x67\x89\xab\xcd\xef"
-}
-
-fn nonce() -> [u8; 8] {
-    *b"\x00\x01\x02\x03\x04\x05\x06\x07"
-}
-
-fn published() -> Name
-    ensures { Valid result }
+// A text as a name, if it is one.
+fn named(text: &[u8]) -> Option<Name>
+    ensures { IfSome result Valid }
 {
-    first(b"Someone's Google Headphone", 26)
-}
-
-// The name of the first n bytes of a text.
-fn first(text: &[u8], n: usize) -> Name
-    requires { n ≤ length text.now }
-    ensures value { result ≡ (reading (take n text.now)).name }
-    ensures valid { Valid result }
-{
-    names::read(&text[..n]).name
+    names::read(text)
 }
 
 // Two lines: an output of 80 bytes, which held EE before, and the bytes of the name that its packet reads as.
-fn sealed(rt: &HostRuntime, label: &[u8], name: Name)
-    requires { Valid name }
-{
-    let mut out = [0xEEu8; 80];
-    additional_data::seal(key(), nonce(), name, &mut out);
+fn sealed(rt: &HostRuntime, label: &str, text: &[u8]) {
+    let Some(name) = named(text) else {
+        return;
+    };
+    let mut out = [0xEE; 80];
+    additional_data::seal(KEY, NONCE, name, &mut out);
     line(rt, label, &out);
-    let reading = opened(key(), &out, 16 + name.length as usize);
-    let again = reading.name;
-    let bytes = again.bytes;
-    line(rt, b"name read from it", &bytes);
+    let packet = &out[..16 + name.length as usize];
+    if let Some(again) = additional_data::open(KEY, packet) {
+        line(rt, "name read from it", &again.bytes);
+    }
 }
 
 // One line: whether the published packet is still read with one bit of a byte changed.
-fn changed(rt: &HostRuntime, label: &[u8], at: usize)
-    requires { at < 80 }
-{
-    let mut out = [0u8; 80];
-    additional_data::seal(key(), nonce(), published(), &mut out);
-    out[at] = out[at] ^ 1;
-    let reading = opened(key(), &out, 42);
-    line(rt, label, &[reading.good as u8]);
+fn changed(rt: &HostRuntime, label: &str, at: usize) {
+    let Some(name) = named(b"Someone's Google Headphone") else {
+        return;
+    };
+    let mut out = [0; 80];
+    additional_data::seal(KEY, NONCE, name, &mut out);
+    let packet = with_bit_changed(out, at);
+    let is_read = additional_data::open(KEY, &packet[..42]).is_some();
+    line(rt, label, &[u8::from(is_read)]);
 }
 
-// The packet in the first n bytes of an output, read.
-fn opened(key: [u8; 16], out: &[u8], n: usize) -> NameReading
-    requires { n ≤ length out.now }
-    ensures { result ≡ packet.opened key (take n out.now) }
-{
-    additional_data::open(key, &out[..n])
+fn with_bit_changed(mut packet: [u8; 80], at: usize) -> [u8; 80] {
+    if let Some(byte) = packet.get_mut(at) {
+        *byte ^= 1;
+    }
+    packet
 }

@@ -1,14 +1,12 @@
--- After i turns `equal` says whether the first i bytes are equal, and the rest decides what is left.
-use mathlib.Core.Path.{◌≡◌}
-use Prim.Native.Nat.{◌≤◌, ◌-◌}
-use lib.ListN.{length, drop}
+-- What is left of both is equally long, and decides together with what was seen so far.
+use Rattle.std.proofs.Common.{◌≡◌, length}
+use Rattle.std.specs.Iterator.Adapters.{zip_first, zip_second}
+use Rattle.std.specs.Slice.Iter.{iter_rest}
 use Rattle.laws.specs.Choice.{◌and◌}
 use Rattle.basics.specs.Bytes as spec
 use Rattle.basics.proofs.same.Given as goal
 
-abbrev pub invariant-loop-i : goal.invariant-loop-i
-invariant-loop-i l =
-    (l.i ≤ length l.a) × (length l.a ≡ length l.b) × ((l.equal and spec.same (drop l.i l.a) (drop l.i l.b)) ≡ spec.same l.a l.b)
-
-abbrev pub decreases-loop-i : goal.decreases-loop-i
-decreases-loop-i l = length l.a - l.i
+abbrev pub invariant-loop-x : goal.invariant-loop-x
+invariant-loop-x l =
+    (length (iter_rest (zip_first l.x-iterator)) ≡ length (iter_rest (zip_second l.x-iterator)))
+    × ((l.equal and spec.same (iter_rest (zip_first l.x-iterator)) (iter_rest (zip_second l.x-iterator))) ≡ spec.same l.a l.b)

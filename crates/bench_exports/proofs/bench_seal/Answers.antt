@@ -1,22 +1,16 @@
--- What sealing ensures, of the name that was read.
-use mathlib.Core.List.{◌++◌}
-use mathlib.Core.Path.{◌≡◌, ap, ◌∙◌}
-use native.Mathlib.Omega.{arith}
-use lib.ListN.{length, drop}
-use Rattle.additional_data.specs.Packet.{sealed, packet_size}
-use Rattle.names.proofs.ValidNames.{reading_valid}
-use Rattle.names.specs.Name.{text_of}
-use Rattle.names.specs.declared.NameReading.{NameReading}
-use borrow.Author.Rules.{rules}
+-- What was read is a valid name, and so is the empty one.
+use Rattle.std.proofs.Common.{◌≡◌, ℕ, List, length, sym, arith, rules}
+use Rattle.std.specs.Prelude.{Option, Some, None, unwrap_or}
+use Rattle.names.proofs.ValidNames.{reading_valid, no_name_valid}
+use Rattle.names.specs.Name.{reading, no_name, Valid}
+use Rattle.names.specs.declared.Name.{Name}
 use Rattle.bench_exports.proofs.bench_seal.Goals as goal
+
+named : (text : List ℕ) (r : Option Name) → r ≡ reading text → Valid (unwrap_or r no_name)
+named text None e = no_name_valid
+named text (Some n) e = reading_valid text (sym e)
 
 pub seal-requires : goal.seal-requires
 seal-requires c =
     let long : length c.args.out.now ≡ 80 = search rules in
-    (rw c.read.ensures (reading_valid c.args.text.now), omega (arith, long))
-
-pub returns : goal.returns
-returns c =
-    c.seal.ensures
-    ∙ ap (λ (r : NameReading). sealed c.args.key.now c.args.nonce.now (text_of r.name)
-    ++ drop (packet_size r.name) c.args.out.now) c.read.ensures
+    (rw (c.unwrap_or-name.ensures, c.none.ensures) (named c.args.text.now c.read.result c.read.ensures), omega (arith, long))

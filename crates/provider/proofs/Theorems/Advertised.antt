@@ -3,6 +3,7 @@
 use mathlib.Core.List.{List, Permᴰ}
 use mathlib.Core.Path.{◌≡◌, refl, sym, ap₂}
 use Prim.Native.Nat.{ℕ}
+use Rattle.std.specs.Prelude.{Option}
 use Rattle.laws.proofs.Permuted.{length_permuted}
 use Rattle.account_keys.specs.Keys as keys
 use Rattle.account_keys.specs.Keys.{held}
@@ -12,7 +13,6 @@ use Rattle.advertising.specs.Beacon.{refreshed, beacon_payload}
 use Rattle.advertising.specs.declared.Beacon.{Beacon}
 use Rattle.advertising.specs.declared.Prompt.{Prompt}
 use Rattle.key_based.specs.Decision.{used_in, decided}
-use Rattle.key_based.specs.declared.Element.{Element}
 use Rattle.pairing.proofs.SessionSteps.{step_lawful}
 use Rattle.pairing.specs.Pairing.{session_step, stored_in, adds_to}
 use Rattle.pairing.specs.declared.SessionOutcome.{SessionOutcome}
@@ -37,7 +37,7 @@ same_payload c ks b prompt p e =
     ap₂ (λ (x : Beacon) (n : ℕ). beacon_payload x c.identity.model n prompt) e (sym (length_permuted p))
 
 -- a request only uses a key
-request_advertised : (c : Device) (l t : ℕ) (request : List ℕ) (element : Element) (prompt : Prompt) → keys.Valid c.keys
+request_advertised : (c : Device) (l t : ℕ) (request : List ℕ) (element : Option (List ℕ)) (prompt : Prompt) → keys.Valid c.keys
     → advertised (requested c l (decided (context_of c) (session_at c.sessions l) t element request)).next prompt
     ≡ advertised c prompt
 request_advertised c l t request element prompt v =
@@ -75,7 +75,7 @@ order_not_advertised d l t e prompt v = go (way d (OnLink l t e))
         → ((k : AccountKey) → (Lists (written x.gives.next) k × (Lists (written d) k → ⊥)) → ⊥)
         → advertised x.gives.next prompt ≡ advertised d prompt
     go (event.unknown_link l t e) none = refl
-    go (event.refused_early l t e q) none = refl
+    go (event.refused_early l t e a p q) none = refl
     go (event.link-late l t e) none = refl
     go (event.on_link_lem l t e k) none = on_link_advertised e (clock_step t d) l t prompt (clock_step_valid v t) none
 
@@ -87,6 +87,6 @@ request_keeps_payload d l t request element salt nonce out packet prompt v =
     go : {x : Effect} → event.Way d (OnLink l t (KeyBasedWrite request element salt nonce out packet)) x
         → advertised x.gives.next prompt ≡ advertised d prompt
     go (event.unknown_link l t e) = refl
-    go (event.refused_early l t e q) = refl
+    go (event.refused_early l t e a p q) = refl
     go (event.link-late l t e) = refl
     go (event.on_link_lem l t e k) = request_advertised (clock_step t d) l t request element prompt v.keys

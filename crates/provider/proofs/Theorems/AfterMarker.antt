@@ -131,7 +131,7 @@ module _ (d : Device) (l m t : ℕ) (v : keys.Valid d.keys) (i : IdleAt l d) whe
   decision-next unasked = inr (set_idle d.sessions.links m l _ link-session i)
   decision-next (no-fit h a) = inr (set_idle d.sessions.links m l _ link-session i)
   decision-next spent = inr (set_idle d.sessions.links m l _ link-session i)
-  decision-next {f = f} (taken h p a) = go (eqb m l) refl
+  decision-next (taken f z p a) = go (eqb m l) refl
     where
       go : (b : Bool) → eqb m l ≡ b
           → (((eqb m l and true) ≡ true) × (◌≡◌ {A = ℕ} 0 0))
@@ -183,7 +183,7 @@ is_quiet l d v event.marker i = record {
   keys = λ n. absurd (true_is n);
   next = inr (all_idle_lem link_count l);
 }
-is_quiet l d v (event.powered-on stored name start h q) i = record {
+is_quiet l d v (event.powered-on stored name start ks h q) i = record {
   refused = λ n. absurd (true_is n);
   keys = λ n. absurd (true_is n);
   next = inr (all_idle_lem link_count l);
@@ -196,7 +196,7 @@ is_quiet l d v (event.malformed stored name start) i = record {
 is_quiet l d v (event.device-late t e) i = of_device t e (all_idle_lem link_count l)
 is_quiet l d v (event.device-changed t e) i = of_device t e (device_idle e (clock_step t d) l (stepped_idle d t l i))
 is_quiet l d v (event.unknown_link m t e) i = refusal m t e refl refl i
-is_quiet l d v (event.refused_early m t e h) i = refusal m t e h refl i
+is_quiet l d v (event.refused_early m t e a p h) i = refusal m t e h refl i
 is_quiet l d v (event.link-late m t e) i = refusal m t e refl refl (all_idle_lem link_count l)
 is_quiet l d v (event.on_link_lem m t e k) i =
     let q = on-link-quiet (clock_step t d) l m t v (stepped_idle d t l i) e in

@@ -1,7 +1,7 @@
 -- One event in the two runs of demand 3: the second does the same, or gets 9 on a link whose K it lost.
 -- Assumes nothing.
-use mathlib.Core.Bool.{Bool, true, false, not}
-use mathlib.Core.List.{List, []}
+use mathlib.Core.Bool.{Bool, true, false}
+use mathlib.Core.List.{List}
 use mathlib.Core.Logic.{◌⊎◌, inl, inr}
 use mathlib.Core.Path.{◌≡◌, refl, sym, ap, subst}
 use Prim.Native.Nat.{ℕ}
@@ -9,22 +9,20 @@ use lib.Dec.{ltb}
 use borrow.Author.Tests.{eqb-true, eqb-false}
 use Rattle.laws.proofs.Choice.{and_left, and_right, or_left, or_right}
 use Rattle.laws.specs.Choice.{◌or◌}
-use Rattle.std.specs.Prelude.{if◌then◌else◌}
+use Rattle.std.specs.Prelude.{if◌then◌else◌, Option, Some, None, is_some, Result, Ok, Err}
 use Rattle.account_keys.proofs.ReadBack.{reads_valid}
 use Rattle.account_keys.specs.Keys as keys
 use Rattle.account_keys.specs.Keys.{held}
 use Rattle.account_keys.specs.StoredList.{reading}
+use Rattle.account_keys.specs.declared.AccountKey.{AccountKey}
 use Rattle.account_keys.specs.declared.AccountKeys.{AccountKeys}
-use Rattle.account_keys.specs.declared.ListForm.{ListForm}
-use Rattle.account_keys.specs.declared.ListForm.TheVariants.{WellFormed, Malformed}
 use Rattle.advertising.specs.Beacon.{refreshed}
 use Rattle.basics.specs.Answers.{answer_number, is_taken}
 use Rattle.basics.specs.declared.Answer.{Answer}
 use Rattle.basics.specs.declared.Answer.TheVariants.{Taken, UnknownLink, ClockWentBack, ListMalformed, LinkIdle, LockedOut, NotInPairingMode, NoKeyFits, SaltSpent, RotationAwaited}
-use Rattle.key_based.specs.Decision.{refused, accepted, salt_known, settled, tried_keys, unwanted, uses_key, decided, outputs_of}
-use Rattle.key_based.specs.Named.{fits}
+use Rattle.key_based.specs.Decision.{refused, accepted, salt_known, settled, settled_by, tried_keys, unwanted, uses_key, decided, outputs_of}
+use Rattle.key_based.specs.declared.Found.{Found}
 use Rattle.key_based.specs.declared.Decision.{Decision}
-use Rattle.key_based.specs.declared.Element.{Element}
 use Rattle.key_based.specs.declared.Search.{Search}
 use Rattle.names.specs.Name.{is_name, name_of}
 use Rattle.names.specs.declared.Name.{Name}
@@ -37,9 +35,9 @@ use Rattle.provider.proofs.Theorems.SessionPairs.{SameOrIdle, same, second-idle,
 use Rattle.provider.proofs.Theorems.ValidParts.{no_keys_valid}
 use Rattle.provider.proofs.Theorems.Validity.{stored_valid, used_valid}
 use Rattle.provider.specs.Demands.Gap.{writes_key, writes_name}
-use Rattle.provider.specs.Rules.Control.{started, by_name, by_form, power_on}
-use Rattle.provider.specs.Rules.Device.{Effect, reply_of, answers, takes, drop_all, with_sessions, with_keys, with_beacon, with_name, with_link, clock_step, in_time, on_known_link}
-use Rattle.provider.specs.Rules.Event.{DeviceEvent, PairingMode, AddressRotated, FactoryReset, LinkEvent, LinkUp, LinkDown, KeyBasedWrite, OnSession, Event, Overflow, PowerOn, OnDevice, OnLink, lent, early, context_of, requested, applied, on_device, on_link, step}
+use Rattle.provider.specs.Rules.Control.{started, by_list, power_on}
+use Rattle.provider.specs.Rules.Device.{Effect, reply_of, answers, takes, drop_all, with_sessions, with_keys, with_beacon, with_name, with_link, clock_step, given, in_time, unless_refused, on_known_link, after_checks}
+use Rattle.provider.specs.Rules.Event.{DeviceEvent, PairingMode, AddressRotated, FactoryReset, LinkEvent, LinkUp, LinkDown, KeyBasedWrite, OnSession, Event, Overflow, PowerOn, OnDevice, OnLink, lent, lent_on_link, early, context_of, requested, applied, on_device, on_link, step}
 use Rattle.provider.specs.declared.Device.{Device}
 use Rattle.provider.specs.declared.Reply.{Reply}
 use Rattle.provider.specs.declared.Start.{Start}
@@ -128,35 +126,39 @@ unfolding clock_step
 before_stepped d ss t b = record { links = each_expired t b.links; valid = b.valid }
 
 -- answer 4, or a rule after the clock step
-pairs_in_time : (t : ℕ) {e : Event} {rule : Device → Effect} → Pairs e rule → Pairs e (λ d. in_time d t (lent e) rule)
+pairs_in_time : (t : ℕ) {e : Event} {rule : Device → Effect} → Pairs e rule
+    → Pairs e (λ d. after_checks (in_time d t) (lent e) rule)
 unfolding in_time clock_step
-pairs_in_time t r = record {
-  paired = λ d ss b. paired_if (ltb t d.clock.0)
-      (replied (drop_all d) all_idle (reply_of ClockWentBack) (before_dropped d ss b))
-      (r.paired (clock_step t d) (clock_step t (with_sessions d ss)).sessions (before_stepped d ss t b));
-}
+pairs_in_time t {e} {rule} r = record { paired = λ d ss b. go d ss b (ltb t d.clock.0) }
+  where
+    go : (d : Device) (ss : Sessions) → Before d ss → (late : Bool)
+        → Paired d.keys e
+        (after_checks (if late then Err (given (drop_all d) ClockWentBack) else Ok (clock_step t d)) (lent e) rule)
+        (after_checks (if late then Err (given (drop_all (with_sessions d ss)) ClockWentBack) else
+        Ok (clock_step t (with_sessions d ss))) (lent e) rule)
+    go d ss b true = replied (drop_all d) all_idle (reply_of ClockWentBack) (before_dropped d ss b)
+    go d ss b false = r.paired (clock_step t d) (clock_step t (with_sessions d ss)).sessions (before_stepped d ss t b)
 
 -- ---- power-on and events of the whole device
 
 -- both runs have the device that power-on made
-pub before_started : (stored : List ℕ) (n : Name) (start : Start) → (reading stored).form ≡ WellFormed
-    → Before (started (reading stored).keys n start) all_idle
-before_started stored n start e = record { links = each_replicate link_count idle; valid = reads_valid stored e }
+pub before_started : (stored : List ℕ) (ks : AccountKeys) (n : Name) (start : Start) → reading stored ≡ Some ks
+    → Before (started ks n start) all_idle
+before_started stored ks n start e = record { links = each_replicate link_count idle; valid = reads_valid stored ks e }
 
 power_on_pairs : (stored name : List ℕ) (start : Start) → Pairs (PowerOn stored name start) (λ d. power_on d stored name start)
 unfolding power_on
-power_on_pairs stored name start = record { paired = λ d ss b. go d ss b (reading stored).form refl }
+power_on_pairs stored name start = record { paired = λ d ss b. go d ss b (reading stored) refl (is_name name) }
   where
-    go : (d : Device) (ss : Sessions) → Before d ss → (f : ListForm) → (reading stored).form ≡ f
+    go : (d : Device) (ss : Sessions) → Before d ss → (r : Option AccountKeys) → reading stored ≡ r → (good : Bool)
         → Paired d.keys (PowerOn stored name start)
-        (by_form f (by_name d (reading stored).keys name start) (answers d ListMalformed []))
-        (by_form f (by_name (with_sessions d ss) (reading stored).keys name start)
-        (answers (with_sessions d ss) ListMalformed []))
-    go d ss b WellFormed e =
-        paired_if (is_name name)
-        (replied (started (reading stored).keys (name_of name) start) all_idle (reply_of Taken)
-        (before_started stored (name_of name) start e)) (replied d ss (reply_of ListMalformed) b)
-    go d ss b Malformed e = replied d ss (reply_of ListMalformed) b
+        (by_list d r (if good then Some (name_of name) else None) start)
+        (by_list (with_sessions d ss) r (if good then Some (name_of name) else None) start)
+    go d ss b (Some ks) e true =
+        replied (started ks (name_of name) start) all_idle (reply_of Taken)
+        (before_started stored ks (name_of name) start e)
+    go d ss b (Some ks) e false = replied d ss (reply_of ListMalformed) b
+    go d ss b None e good = replied d ss (reply_of ListMalformed) b
 
 device_pairs : (t : ℕ) (e : DeviceEvent) → Pairs (OnDevice t e) (λ d. takes (on_device e d))
 device_pairs t (PairingMode on) = record {
@@ -181,7 +183,7 @@ decided_effect l salt nonce out packet d r =
       leaves = outputs_of (context_of d) salt nonce out packet r;
     }
 
-module _ (l t : ℕ) (request : List ℕ) (element : Element) (salt nonce out packet : List ℕ) (d : Device) (ss : Sessions)
+module _ (l t : ℕ) (request : List ℕ) (element : Option (List ℕ)) (salt nonce out packet : List ℕ) (d : Device) (ss : Sessions)
     (b : Before d ss) where
   -- both runs' effects of a decision
   abbrev BothDecide : Decision → Decision → Type 0
@@ -201,8 +203,8 @@ module _ (l t : ℕ) (request : List ℕ) (element : Element) (salt nonce out pa
   }
 
   -- an accepted request gives both the same session
-  accepted-pair : (g : Guard) (uses : Bool) (f : Search) → BothDecide (accepted g t uses f) (accepted g t uses f)
-  accepted-pair g uses f = record {
+  accepted-pair : (g : Guard) (uses : Bool) (n : ℕ) (f : Found) → BothDecide (accepted g t uses n f) (accepted g t uses n f)
+  accepted-pair g uses n f = record {
     seen = inl (refl, refl);
     next = inl (record {
       same = refl;
@@ -210,42 +212,43 @@ module _ (l t : ℕ) (request : List ℕ) (element : Element) (salt nonce out pa
     });
   }
 
-request_pairs : (l t : ℕ) (request : List ℕ) (element : Element) (salt nonce out packet : List ℕ)
+  -- a spent salt is refused in both
+  salt-pair : (g : Guard) (uses : Bool) (n : ℕ) (f : Found) (known : Bool)
+      → BothDecide (if known then refused g (session_at d.sessions l) SaltSpent n else accepted g t uses n f)
+      (if known then refused g (session_at ss l) SaltSpent n else accepted g t uses n f)
+  salt-pair g uses n f true = refused-pair g SaltSpent n refl
+  salt-pair g uses n f false = accepted-pair g uses n f
+
+  -- answers 7 and 8, and what is accepted
+  settled-pair : (g : Guard) (uses : Bool) (n : ℕ) (f : Option Found)
+      → BothDecide (settled_by g (session_at d.sessions l) t uses n f) (settled_by g (session_at ss l) t uses n f)
+  settled-pair g uses n None = refused-pair (failed_at t g) NoKeyFits n refl
+  settled-pair g uses n (Some f) = salt-pair g uses n f (salt_known g (Some f))
+
+request_pairs : (l t : ℕ) (request : List ℕ) (element : Option (List ℕ)) (salt nonce out packet : List ℕ)
     → Pairs (OnLink l t (KeyBasedWrite request element salt nonce out packet))
     (λ d. on_link (KeyBasedWrite request element salt nonce out packet) d l t)
 unfolding decided settled
 request_pairs l t request element salt nonce out packet = record {
   paired = λ d ss b. go d ss b (locked d.guard) d.wait.on (unwanted (context_of d) request)
-      (fits (tried_keys (context_of d) element request).named) (salt_known d.guard (tried_keys (context_of d) element request));
+      (tried_keys (context_of d) element request);
 }
   where
-    go : (d : Device) (ss : Sessions) (b : Before d ss) (x v y z w : Bool)
+    go : (d : Device) (ss : Sessions) (b : Before d ss) (x v y : Bool) (r : Search)
         → BothDecide l t request element salt nonce out packet d ss b
         (if x then refused d.guard (session_at d.sessions l) LockedOut 0 else
         if v then refused d.guard (session_at d.sessions l) RotationAwaited 0 else
         if y then refused d.guard (session_at d.sessions l) NotInPairingMode 0 else
-        if not z then refused (failed_at t d.guard) (session_at d.sessions l) NoKeyFits
-        (tried_keys (context_of d) element request).tried else
-        if w then refused d.guard (session_at d.sessions l) SaltSpent
-        (tried_keys (context_of d) element request).tried else
-        accepted d.guard t (uses_key request) (tried_keys (context_of d) element request))
+        settled_by d.guard (session_at d.sessions l) t (uses_key request) r.tried r.found)
         (if x then refused d.guard (session_at ss l) LockedOut 0 else
         if v then refused d.guard (session_at ss l) RotationAwaited 0 else
         if y then refused d.guard (session_at ss l) NotInPairingMode 0 else
-        if not z then refused (failed_at t d.guard) (session_at ss l) NoKeyFits
-        (tried_keys (context_of d) element request).tried else
-        if w then refused d.guard (session_at ss l) SaltSpent (tried_keys (context_of d) element request).tried else
-        accepted d.guard t (uses_key request) (tried_keys (context_of d) element request))
-    go d ss b true v y z w = refused-pair l t request element salt nonce out packet d ss b d.guard LockedOut 0 refl
-    go d ss b false true y z w = refused-pair l t request element salt nonce out packet d ss b d.guard RotationAwaited 0 refl
-    go d ss b false false true z w = refused-pair l t request element salt nonce out packet d ss b d.guard NotInPairingMode 0
-        refl
-    go d ss b false false false false w = refused-pair l t request element salt nonce out packet d ss b (failed_at t d.guard)
-        NoKeyFits (tried_keys (context_of d) element request).tried refl
-    go d ss b false false false true true = refused-pair l t request element salt nonce out packet d ss b d.guard SaltSpent
-        (tried_keys (context_of d) element request).tried refl
-    go d ss b false false false true false = accepted-pair l t request element salt nonce out packet d ss b d.guard
-        (uses_key request) (tried_keys (context_of d) element request)
+        settled_by d.guard (session_at ss l) t (uses_key request) r.tried r.found)
+    go d ss b true v y r = refused-pair l t request element salt nonce out packet d ss b d.guard LockedOut 0 refl
+    go d ss b false true y r = refused-pair l t request element salt nonce out packet d ss b d.guard RotationAwaited 0 refl
+    go d ss b false false true r = refused-pair l t request element salt nonce out packet d ss b d.guard NotInPairingMode 0 refl
+    go d ss b false false false r = settled-pair l t request element salt nonce out packet d ss b d.guard (uses_key request)
+        r.tried r.found
 
 -- ---- pairing, passkey and account key events, and the name write
 
@@ -270,7 +273,7 @@ module _ (e : PairingEvent) (l t : ℕ) (u : Session) (a : SessionOutcome) (own 
   parted : (is_account_key_write e or is_name_write e) ≡ true → is_taken a.answer ≡ true → Next
   parted w h = inr (record { writes = w; first = eqb-true _ 0 h; second = refl; keys = refl })
 
-  related : a.stores ≡ false → a.renames ≡ false → Next
+  related : a.key ≡ None → a.name ≡ None → Next
   related p q = inl (record {
     same = λ i. with_name (with_beacon (with_keys (with_link (with_sessions d ss) l u) (sym same_keys i)) (sym same-beacon i))
         (sym same_name i);
@@ -287,7 +290,7 @@ module _ (e : PairingEvent) (l t : ℕ) (u : Session) (a : SessionOutcome) (own 
       same_name = rw q
 
   next-alone : Next
-  next-alone = go a.stores a.renames refl refl
+  next-alone = go a.key a.name refl refl
     where
       k : Bool
       k = is_account_key_write e
@@ -295,10 +298,10 @@ module _ (e : PairingEvent) (l t : ℕ) (u : Session) (a : SessionOutcome) (own 
       n : Bool
       n = is_name_write e
 
-      go : (x y : Bool) → a.stores ≡ x → a.renames ≡ y → Next
-      go true y p q = let h = own.key p in parted (or_left k n (and_left k _ h)) (and_right k _ h)
-      go false true p q = let h = own.name q in parted (or_right k n (and_left n _ h)) (and_right n _ h)
-      go false false p q = related p q
+      go : (x : Option AccountKey) (y : Option Name) → a.key ≡ x → a.name ≡ y → Next
+      go (Some x) y p q = let h = own.key (ap is_some p) in parted (or_left k n (and_left k _ h)) (and_right k _ h)
+      go None (Some y) p q = let h = own.name (ap is_some q) in parted (or_right k n (and_left n _ h)) (and_right n _ h)
+      go None None p q = related p q
 
 session_pairs : (e : PairingEvent) (l t : ℕ) → Pairs (OnLink l t (OnSession e)) (λ d. on_link (OnSession e) d l t)
 session_pairs e l t = record { paired = λ d ss b. go d ss b (each_at b.links l) }
@@ -368,6 +371,11 @@ step_pairs Overflow = record {
 }
 step_pairs (PowerOn stored name start) = power_on_pairs stored name start
 step_pairs (OnDevice t e) = pairs_in_time t (device_pairs t e)
-step_pairs (OnLink l t e) =
-    pairs_if (ltb 7 l) (pairs_refused UnknownLink)
-    (pairs_if (not (is_taken (early e))) (pairs_refused (early e)) (pairs_in_time t (link_pairs e l t)))
+step_pairs (OnLink l t e) = go (ltb 7 l) (early e)
+  where
+    go : (unknown : Bool) (checked : Result Unit Answer) → Pairs (OnLink l t e)
+        (λ d. after_checks (if unknown then Err (given d UnknownLink) else unless_refused d checked (in_time d t))
+        (lent_on_link e) (λ x. on_link e x l t))
+    go true checked = pairs_refused UnknownLink
+    go false (Err a) = pairs_refused a
+    go false (Ok u) = pairs_in_time t (link_pairs e l t)

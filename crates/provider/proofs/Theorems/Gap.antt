@@ -103,8 +103,8 @@ started_related d stored name start = go (way d (PowerOn stored name start))
   where
     go : {x : Effect} → event.Way d (PowerOn stored name start) x → x.gives.reply.answer ≡ Taken
         → Related x.gives.next x.gives.next
-    go (event.powered-on stored name start h n) e =
-        record { same = refl; before = before_started stored (name_of name) start h }
+    go (event.powered-on stored name start ks h n) e =
+        record { same = refl; before = before_started stored ks (name_of name) start h }
     go (event.malformed stored name start) e = absurd (unlike ListMalformed Taken tt e)
 
 pub gap_only_takes_away : GapOnlyTakesAway

@@ -64,12 +64,12 @@ device_current FactoryReset c h = refl
 leaves_current : {d : Device} {e : Event} {x : Effect} → event.Way d e x → Valid d → FilterCurrent d → FilterCurrent x.gives.next
 unfolding clock_step
 leaves_current event.marker v h = h
-leaves_current (event.powered-on stored name start f n) v h = refl
+leaves_current (event.powered-on stored name start ks f n) v h = refl
 leaves_current (event.malformed stored name start) v h = h
 leaves_current (event.device-late t e) v h = h
 leaves_current {d} (event.device-changed t e) v h = device_current e (clock_step t d) h
 leaves_current (event.unknown_link l t e) v h = h
-leaves_current (event.refused_early l t e q) v h = h
+leaves_current (event.refused_early l t e a p q) v h = h
 leaves_current (event.link-late l t e) v h = h
 leaves_current {d} (event.on_link_lem l t e k) v h = on_link_current e (clock_step t d) l t (clock_step_valid v t) h
 
@@ -81,7 +81,7 @@ starts_current : (d : Device) (stored name : List ℕ) (start : Start) → answe
 starts_current d stored name start = go (way d (PowerOn stored name start))
   where
     go : {x : Effect} → event.Way d (PowerOn stored name start) x → x.gives.reply.answer ≡ Taken → FilterCurrent x.gives.next
-    go (event.powered-on stored name start f n) e = refl
+    go (event.powered-on stored name start ks f n) e = refl
     go (event.malformed stored name start) e = absurd (unlike ListMalformed Taken tt e)
 
 -- whatever events follow
@@ -130,11 +130,11 @@ filter_untouched d e v = go (way d e)
         → ((k : AccountKey) → (Lists (written x.gives.next) k × (Lists (written d) k → ⊥)) → ⊥)
         → x.gives.next.beacon.filter ≡ d.beacon.filter
     go event.marker h none = refl
-    go (event.powered-on stored name start f n) h none = absurd (true_is (sym h))
+    go (event.powered-on stored name start ks f n) h none = absurd (true_is (sym h))
     go (event.malformed stored name start) h none = refl
     go (event.device-late t e) h none = refl
     go (event.device-changed t e) h none = device_untouched e (clock_step t d) t h
     go (event.unknown_link l t e) h none = refl
-    go (event.refused_early l t e q) h none = refl
+    go (event.refused_early l t e a p q) h none = refl
     go (event.link-late l t e) h none = refl
     go (event.on_link_lem l t e k) h none = on_link_untouched e (clock_step t d) l t (clock_step_valid v t) none

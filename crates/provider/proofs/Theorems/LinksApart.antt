@@ -1,12 +1,11 @@
 -- An event on one link leaves the other links' keys and stages as they are, timers and answer 4 apart.
 -- Assumes nothing.
-use mathlib.Core.Bool.{Bool, false}
-use mathlib.Core.Path.{◌≡◌, refl, sym, ◌∙◌}
+use mathlib.Core.Bool.{Bool}
+use mathlib.Core.Path.{◌≡◌, refl, ◌∙◌}
 use Prim.Native.Nat.{ℕ, ◌<◌}
 use lib.ListN.{replicate}
 use Rattle.laws.proofs.All.{all_get, all_replicate}
-use Rattle.laws.proofs.Choice.{true_is}
-use Rattle.basics.specs.Answers.{is_taken}
+use Rattle.std.specs.Prelude.{Err}
 use Rattle.basics.specs.declared.Answer.{Answer}
 use Rattle.key_based.proofs.Deciding.{Way, locked, awaited, unasked, no-fit, spent, taken, decided_way}
 use Rattle.key_based.specs.declared.Context.{Context}
@@ -14,7 +13,7 @@ use Rattle.key_based.specs.declared.Decision.{Decision}
 use Rattle.key_based.specs.declared.Search.{Search}
 use Rattle.pairing.proofs.SessionSteps.{OnSessions, step_lawful}
 use Rattle.pairing.proofs.SessionSteps as session-answer
-use Rattle.provider.proofs.Theorems.Refusals.{early_ways}
+use Rattle.provider.proofs.Checks.{early_ways}
 use Rattle.provider.proofs.Theorems.Ways as event
 use Rattle.provider.proofs.Theorems.Ways.{way}
 use Rattle.provider.specs.Demands.LinksApart.{other_session, LinksApart}
@@ -32,10 +31,8 @@ all_dropped l h =
     (all_replicate (λ (s : Session). s ≡ idle) link_count idle refl) l absent_session h
 
 -- an early refusal leaves the session
-early_kept : (t : ℕ) (s : Session) (e : LinkEvent) → is_taken (early e) ≡ false → s ≡ other_session (early e) t s
-early_kept t s =
-    early_ways (λ a. is_taken a ≡ false → s ≡ other_session a t s) (λ h. absurd (true_is (sym h))) (λ h. refl)
-    (λ h. refl) (λ h. refl)
+early_kept : (t : ℕ) (s : Session) (e : LinkEvent) {a : Answer} → early e ≡ Err a → s ≡ other_session a t s
+early_kept t s = early_ways (λ a. s ≡ other_session a t s) refl refl refl
 
 -- an event's link m is another than l
 module _ (d : Device) {l m : ℕ} (t : ℕ) (h : m ≡ l → ⊥) where
@@ -52,7 +49,7 @@ module _ (d : Device) {l m : ℕ} (t : ℕ) (h : m ≡ l → ⊥) where
   decision-apart unasked = stepped _
   decision-apart (no-fit e a) = stepped _
   decision-apart spent = stepped _
-  decision-apart (taken f p a) = stepped _
+  decision-apart (taken f z p a) = stepped _
 
   -- answers 0, 9 to 12 and 15
   late : {a : Answer} → OnSessions a → (s : Session) → at_clock t s ≡ other_session a t s
@@ -79,6 +76,6 @@ links_apart d m t e l k h = go (way d (OnLink m t e))
     go : {x : Effect} → event.Way d (OnLink m t e) x
         → session_at x.gives.next.sessions l ≡ other_session x.gives.reply.answer t (session_at d.sessions l)
     go (event.unknown_link m t e) = refl
-    go (event.refused_early m t e q) = early_kept t (session_at d.sessions l) e q
+    go (event.refused_early m t e a p q) = early_kept t (session_at d.sessions l) e p
     go (event.link-late m t e) = all_dropped l k
     go (event.on_link_lem m t e q) = on-link-apart d t h e

@@ -10,7 +10,7 @@ use lib.Seq.{take_at, get_or-set_same}
 use borrow.Author.Tests.{le-leb}
 use Rattle.laws.proofs.Choice.{true_is, fails_with}
 use Rattle.laws.specs.Choice.{◌and◌}
-use Rattle.std.specs.Prelude.{if◌then◌else◌}
+use Rattle.std.specs.Prelude.{if◌then◌else◌, Option, Some, None, is_some, Result, Ok}
 use Rattle.additional_data.proofs.Promises.{sealed_length, opening_undoes_sealing, name_short}
 use Rattle.additional_data.specs.Packet.{sealed, packet_size, packet_sized}
 use Rattle.account_keys.specs.declared.AccountKeys.{AccountKeys}
@@ -28,7 +28,7 @@ use Rattle.names.specs.Name.{name_of, text_of}
 use Rattle.names.specs.declared.Name.{Name}
 use Rattle.pairing.proofs.Laws as pairing
 use Rattle.pairing.proofs.SessionSteps.{own_parts}
-use Rattle.pairing.specs.Pairing.{NameWrite, name_taken, session_step}
+use Rattle.pairing.specs.Pairing.{NameWrite, name_taken, session_step, with_taken}
 use Rattle.pairing.specs.declared.SessionOutcome.{SessionOutcome}
 use Rattle.provider.proofs.Checks.{known_link, clock_on}
 use Rattle.provider.proofs.Theorems.Refusals.{same_link}
@@ -40,9 +40,10 @@ use Rattle.provider.proofs.Theorems.Ways.{way}
 use Rattle.provider.specs.Demands.Gap.{writes_name}
 use Rattle.provider.specs.Demands.Names.{sets_name, NameKept, name_written, session_then, PacketReads, sent_by, PacketComesBack}
 use Rattle.provider.specs.Demands.Validity.{Valid}
-use Rattle.provider.specs.Rules.Device.{Effect, takes, with_keys, with_name, with_guard, with_wait, with_link, clock_step}
+use Rattle.provider.specs.Rules.Device.{Effect, takes, with_keys, with_name, with_guard, with_wait, with_link, clock_step, on_known_link, after_checks}
 use Rattle.provider.specs.Rules.Event.{DeviceEvent, PairingMode, AddressRotated, FactoryReset, LinkEvent, LinkUp, LinkDown, KeyBasedWrite, OnSession, OnDevice, OnLink, context_of, requested, applied, name_size, on_device, on_link, step}
 use Rattle.provider.specs.declared.Device.{Device}
+use Rattle.provider.specs.declared.Outcome.{Outcome}
 use Rattle.request_guard.specs.declared.Guard.{Guard}
 use Rattle.request_guard.specs.declared.wait.RotationWait.{RotationWait}
 use Rattle.sessions.proofs.Laws.{at_clock_in_time, expired_at}
@@ -52,14 +53,20 @@ use Rattle.sessions.specs.declared.Stage.TheVariants.{Idle, Paired}
 
 -- ---- what changes the name
 
+-- an event that takes no name
+none_taken : (m : Option Name) (n : Name) → is_some m ≡ false → with_taken m n ≡ n
+none_taken None n h = refl
+none_taken (Some m) n h = absurd (true_is (sym h))
+
 name_kept_on_link : (e : LinkEvent) (c : Device) (l t : ℕ)
     → (writes_name (OnLink l t e) and is_taken (on_link e c l t).gives.reply.answer) ≡ false
     → (on_link e c l t).gives.next.name ≡ c.name
 name_kept_on_link LinkUp c l t h = refl
 name_kept_on_link LinkDown c l t h = refl
 name_kept_on_link (KeyBasedWrite request element salt nonce out packet) c l t h = refl
-name_kept_on_link (OnSession e) c l t h = rw (fails_with (session_step e t (session_at c.sessions l)).renames
-    (own_parts e t (session_at c.sessions l)).name h)
+name_kept_on_link (OnSession e) c l t h =
+    let a = session_step e t (session_at c.sessions l) in
+    none_taken a.name c.name (fails_with (is_some a.name) (own_parts e t (session_at c.sessions l)).name h)
 
 name_kept_on_device : (e : DeviceEvent) (c : Device) (t : ℕ) → sets_name (OnDevice t e) ≡ false → (on_device e c).name ≡ c.name
 name_kept_on_device (PairingMode on) c t h = refl
@@ -92,11 +99,11 @@ packet_reads d l u nonce text known on eight name awake unpaired =
     let s = session_then d l u in
     let p = sealed s.key nonce text in
     let few : length text ≤ 64 = name_short text name in
-    let early : is_taken (name_size p) ≡ true = rw (sealed_sized s.key nonce text eight few) in
-    known_link d l u (name_size p) [] (λ c. on_link (OnSession (NameWrite p)) c l u) known early
-    ∙ clock_on d u [] (λ c. on_link (OnSession (NameWrite p)) c l u) on
+    let early : name_size p ≡ Ok tt = rw (sealed_sized s.key nonce text eight few) in
+    ap (λ (x : Result Device Outcome). after_checks x [] (λ c. on_link (OnSession (NameWrite p)) c l u))
+    (ap (on_known_link d l u) early ∙ known_link d u l known ∙ clock_on d u on)
     ∙ name_applied (clock_step u d) l (name_of text)
-    (pairing.name_taken_lem p s awake unpaired (sym (opening_undoes_sealing s.key nonce text eight name)) refl)
+    (pairing.name_taken_lem p s awake unpaired (opening_undoes_sealing s.key nonce text eight name))
 
 -- ---- a packet that was sent
 
@@ -152,22 +159,22 @@ module _ (c : Device) (l t u : ℕ) (known : l < link_count) (v : Valid c) (nonc
   decision-back unasked e n = absurd (unlike NotInPairingMode Taken tt e)
   decision-back (no-fit h a) e n = absurd (unlike NoKeyFits Taken tt e)
   decision-back spent e n = absurd (unlike SaltSpent Taken tt e)
-  decision-back {x} {s} {uses} {f} (taken h p a) e n = go (name_asked f.plain) n
+  decision-back {x} {s} {uses} {r} (taken f z p a) e n = go (name_asked f.plain) n
     where
       ks : AccountKeys
       ks = used_in uses f.key c.keys
 
       go : (b : Bool) → 0 < (if b then packet_size c.name else 0)
-          → step (requested c l (accepted x.guard t uses f)).next (name_written l u
+          → step (requested c l (accepted x.guard t uses r.tried f)).next (name_written l u
           (take (if b then packet_size c.name else 0)
           (if b then sealed f.key nonce (text_of c.name) ++ drop (packet_size c.name) packet else packet)))
-          ≡ takes (clock_step u (requested c l (accepted x.guard t uses f)).next)
+          ≡ takes (clock_step u (requested c l (accepted x.guard t uses r.tried f)).next)
       go false n = absurd (omega (arith, n))
       go true n =
-          ap (λ (p : List ℕ). step (requested c l (accepted x.guard t uses f)).next (name_written l u p))
+          ap (λ (p : List ℕ). step (requested c l (accepted x.guard t uses r.tried f)).next (name_written l u p))
           (sent_packet f.key nonce (text_of c.name) (drop (packet_size c.name) packet) eight)
           ∙ comes_back (with_keys c ks) l t u known (keys_valid v ks (used_valid uses f.key c.keys v.keys))
-          (accepted x.guard t uses f).guard _ f.key nonce eight on soon
+          (accepted x.guard t uses r.tried f).guard _ f.key nonce eight on soon
 
 pub packet_comes_back : PacketComesBack
 unfolding clock_step
@@ -178,7 +185,7 @@ packet_comes_back d l t u request element salt nonce out packet v eight =
         → x.gives.reply.answer ≡ Taken → 0 < x.gives.reply.packet → t ≤ u → u < t + 10000
         → step x.gives.next (name_written l u (sent_by x)) ≡ takes (clock_step u x.gives.next)
     go (event.unknown_link l t e) h n on soon = absurd (unlike UnknownLink Taken tt h)
-    go (event.refused_early l t e q) h n on soon = absurd (true_is (sym q ∙ ap is_taken h))
+    go (event.refused_early l t e a p q) h n on soon = absurd (true_is (sym q ∙ ap is_taken h))
     go (event.link-late l t e) h n on soon = absurd (unlike ClockWentBack Taken tt h)
     go (event.on_link_lem l t e k) h n on soon =
         decision-back (clock_step t d) l t u k (clock_step_valid v t) nonce packet eight on soon

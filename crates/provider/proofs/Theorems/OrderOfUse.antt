@@ -39,7 +39,7 @@ write_stores : (d : Device) {l t : ℕ} {block : List ℕ} {x : Effect}
     → x.gives.next.keys ≡ kept (stored (held d.keys) (written_key (AccountKeyWrite block) (session_then d l t)))
 unfolding clock_step
 write_stores d (event.unknown_link l t e) h = absurd (true_is h)
-write_stores d (event.refused_early l t e q) h = absurd (true_is (sym q ∙ h))
+write_stores d (event.refused_early l t e a p q) h = absurd (true_is (sym q ∙ h))
 write_stores d (event.link-late l t e) h = absurd (true_is h)
 write_stores d {block = block} (event.on_link_lem l t e k) h =
     ap (λ (a : SessionOutcome). stored_in a d.keys) (account_key_taken block (session_then d l t) h)

@@ -25,14 +25,14 @@ module _ {A : Type 0} (part : Device → A) (sets : Event → Bool)
   by_way : (d : Device) {e : Event} {x : Effect} → event.Way d e x → (sets e and is_taken x.gives.reply.answer) ≡ false
       → part x.gives.next ≡ part d
   by_way d event.marker h = dropped d
-  by_way d (event.powered-on stored name start f n) h =
+  by_way d (event.powered-on stored name start ks f n) h =
       absurd (true_is (sym (and_true_left (sets (PowerOn stored name start)) h) ∙ at-power-on stored name start))
   by_way d (event.malformed stored name start) h = refl
   by_way d (event.device-late t e) h = dropped d
   by_way d (event.device-changed t e) h =
       on_device_lem e (clock_step t d) t (and_true_left (sets (OnDevice t e)) h) ∙ stepped d t
   by_way d (event.unknown_link l t e) h = refl
-  by_way d (event.refused_early l t e q) h = refl
+  by_way d (event.refused_early l t e a p q) h = refl
   by_way d (event.link-late l t e) h = dropped d
   by_way d (event.on_link_lem l t e k) h = on_link_lem e (clock_step t d) l t h ∙ stepped d t
 

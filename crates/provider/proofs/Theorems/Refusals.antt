@@ -1,30 +1,24 @@
 -- A refusal writes nothing, changes only what its row names and hands out nothing but the number of keys tried.
 -- Assumes nothing.
-use mathlib.Core.Bool.{Bool, true, false, not}
+use mathlib.Core.Bool.{false}
 use mathlib.Core.List.{List, [], ◌∷◌}
 use mathlib.Core.Path.{◌≡◌, refl, sym, ap, ◌∙◌}
 use Prim.Native.Nat.{ℕ}
-use lib.Dec.{ltb}
-use lib.ListN.{length}
 use lib.Seq.{set-get_or}
 use Rattle.laws.proofs.Choice.{true_is, if_same}
-use Rattle.std.specs.Prelude.{if◌then◌else◌}
-use Rattle.additional_data.specs.Packet.{packet_sized}
+use Rattle.std.specs.Prelude.{Option, None, Err}
 use Rattle.basics.specs.Answers.{is_taken, is_one_of}
 use Rattle.basics.specs.declared.Answer.{Answer}
-use Rattle.basics.specs.declared.Answer.TheVariants.{Taken, WrongLength, PasskeyTooLarge, OutputTooShort}
 use Rattle.key_based.proofs.Deciding.{Way, locked, awaited, unasked, no-fit, spent, taken, decided_way, outputs_kept}
 use Rattle.key_based.specs.Decision.{tried_keys, uses_key, decided}
-use Rattle.key_based.specs.Request.{sized}
 use Rattle.key_based.specs.declared.Decision.{Decision}
-use Rattle.key_based.specs.declared.Element.{Element}
 use Rattle.key_based.specs.declared.named.Named.{Named}
-use Rattle.key_based.specs.declared.named.Named.TheVariants.{Neither}
+use Rattle.key_based.specs.Search.{named_in}
 use Rattle.pairing.proofs.SessionSteps.{OnSessions, refused_session, step_lawful, refusal_leaves}
 use Rattle.pairing.proofs.SessionSteps as session-answer
-use Rattle.pairing.specs.Pairing.{PairingEvent, PairingStarted, ConfirmationNeeded, PasskeyWrite, PairingEnded, AccountKeyWrite, NameWrite, session_step}
+use Rattle.pairing.specs.Pairing.{PairingEvent, session_step}
 use Rattle.pairing.specs.declared.SessionOutcome.{SessionOutcome}
-use Rattle.key_based.specs.Request.{no_bond}
+use Rattle.provider.proofs.Checks.{early_ways}
 use Rattle.provider.proofs.Theorems.Ways as event
 use Rattle.provider.proofs.Theorems.Ways.{way}
 use Rattle.provider.specs.Demands.Refusals.{changed, refused_next, Refusals, search_in, told_tried, NumberTried, told_named, AddressTold, refusing, RefusalsHandOutOnlyTried}
@@ -40,7 +34,7 @@ record Tells (d : Device) (e : Event) (x : Effect) : Type 0 where
       → (x.leaves ≡ lent e) × (x.gives.next ≡ refused_next x.gives.reply.answer d e)
       × (x.gives.reply ≡ refusing x.gives.reply)
   tried : x.gives.reply.tried ≡ told_tried x.gives.reply.answer (search_in d e).tried
-  named : x.gives.reply.named ≡ told_named x.gives.reply.answer (search_in d e).named
+  named : x.gives.reply.named ≡ told_named x.gives.reply.answer (named_in (search_in d e).found)
 
 -- a session put back leaves the device as it was
 pub same_link : (d : Device) (l : ℕ) → with_link d l (session_at d.sessions l) ≡ d
@@ -49,67 +43,29 @@ same_link d l = ap (λ (ls : List Session). with_sessions d (record { links = ls
 
 -- ---- answers 2, 3 and 13
 
--- what holds of answers 0, 2, 3 and 13 holds of every early one
-pub early_ways : (P : Answer → Type 0) → P Taken → P WrongLength → P PasskeyTooLarge → P OutputTooShort
-    → (e : LinkEvent) → P (early e)
-early_ways P p q r s LinkUp = p
-early_ways P p q r s LinkDown = p
-early_ways P p q r s (KeyBasedWrite request element salt nonce out packet) =
-    go (sized request) (ltb (length packet) 80) (ltb (length out) 16)
-  where
-    go : (x y z : Bool) → P (if not x then WrongLength else if y then OutputTooShort else if z then OutputTooShort else
-        Taken)
-    go false y z = q
-    go true true z = s
-    go true false true = s
-    go true false false = p
-early_ways P p q r s (OnSession (PairingStarted capability)) = p
-early_ways P p q r s (OnSession (ConfirmationNeeded passkey)) = go (ltb 999999 passkey)
-  where
-    go : (b : Bool) → P (if b then PasskeyTooLarge else Taken)
-    go true = r
-    go false = p
-early_ways P p q r s (OnSession (PasskeyWrite block salt out)) = go (ltb (length out) 16)
-  where
-    go : (b : Bool) → P (if b then OutputTooShort else Taken)
-    go true = s
-    go false = p
-early_ways P p q r s (OnSession (PairingEnded success)) = p
-early_ways P p q r s (OnSession (AccountKeyWrite block)) = p
-early_ways P p q r s (OnSession (NameWrite packet)) = go (packet_sized packet)
-  where
-    go : (b : Bool) → P (if not b then WrongLength else Taken)
-    go true = p
-    go false = q
-
 -- an early refusal changes nothing, and tells no number of keys and no address
 record Nothing (d : Device) (l t : ℕ) (a : Answer) : Type 0 where
-  changes : is_taken a ≡ false → d ≡ changed a d l t
-  tells : is_taken a ≡ false → (n : ℕ) → 0 ≡ told_tried a n
-  names : is_taken a ≡ false → (n : Named) → Neither ≡ told_named a n
+  changes : d ≡ changed a d l t
+  tells : (n : ℕ) → 0 ≡ told_tried a n
+  names : (n : Option Named) → None ≡ told_named a n
 
-early_nothing : (d : Device) (l t : ℕ) (e : LinkEvent) → Nothing d l t (early e)
+early_nothing : (d : Device) (l t : ℕ) (e : LinkEvent) {a : Answer} → early e ≡ Err a → Nothing d l t a
 early_nothing d l t =
     early_ways (Nothing d l t)
-    (record {
-      changes = λ h. absurd (true_is (sym h));
-      tells = λ h n. absurd (true_is (sym h));
-      names = λ h n. absurd (true_is (sym h));
-    })
-    (record { changes = λ h. refl; tells = λ h n. refl; names = λ h n. refl })
-    (record { changes = λ h. refl; tells = λ h n. refl; names = λ h n. refl })
-    (record { changes = λ h. refl; tells = λ h n. refl; names = λ h n. refl })
+    (record { changes = refl; tells = λ n. refl; names = λ n. refl })
+    (record { changes = refl; tells = λ n. refl; names = λ n. refl })
+    (record { changes = refl; tells = λ n. refl; names = λ n. refl })
 
 -- ---- answers 5 to 8 and 16
 
-module _ (d : Device) (l t : ℕ) (request : List ℕ) (element : Element) where
+module _ (d : Device) (l t : ℕ) (request : List ℕ) (element : Option (List ℕ)) where
   -- a decision's outcome
   record Decides (r : Decision) : Type 0 where
     next : is_taken r.answer ≡ false → (requested (clock_step t d) l r).next ≡ changed r.answer d l t
     reply : is_taken r.answer ≡ false
         → (requested (clock_step t d) l r).reply ≡ refusing (requested (clock_step t d) l r).reply
     tried : r.tried ≡ told_tried r.answer (tried_keys (context_of (clock_step t d)) element request).tried
-    named : r.named ≡ told_named r.answer (tried_keys (context_of (clock_step t d)) element request).named
+    named : r.named ≡ told_named r.answer (named_in (tried_keys (context_of (clock_step t d)) element request).found)
 
   decides : {r : Decision}
       → Way (context_of (clock_step t d)) (session_at (clock_step t d).sessions l) t (uses_key request)
@@ -120,11 +76,11 @@ module _ (d : Device) (l t : ℕ) (request : List ℕ) (element : Element) where
   decides unasked = record { next = λ _. same_link (clock_step t d) l; reply = λ _. refl; tried = refl; named = refl }
   decides (no-fit h a) = record { next = λ _. same_link _ l; reply = λ _. refl; tried = refl; named = refl }
   decides spent = record { next = λ _. same_link (clock_step t d) l; reply = λ _. refl; tried = refl; named = refl }
-  decides (taken h p a) = record {
+  decides (taken f z p a) = record {
     next = λ e. absurd (true_is (sym e));
     reply = λ e. absurd (true_is (sym e));
     tried = refl;
-    named = refl;
+    named = sym (ap named_in z);
   }
 
 -- ---- answers 9 to 12 and 15
@@ -157,8 +113,8 @@ module _ (d : Device) (l t : ℕ) where
         λ i. record {
           answer = (session_step e t (session_at (clock_step t d).sessions l)).answer;
           tried = 0;
-          named = Neither;
-          bond = no_bond;
+          named = None;
+          bond = None;
           confirm = (p.refusal h i).confirm;
           packet = 0;
         }
@@ -192,15 +148,15 @@ told_on_link d l t (OnSession e) = record {
 
 told : (d : Device) {e : Event} {x : Effect} → event.Way d e x → Tells d e x
 told d event.marker = record { refusal = λ h. absurd (true_is (sym h)); tried = refl; named = refl }
-told d (event.powered-on stored name start h n) = record { refusal = λ h. absurd (true_is (sym h)); tried = refl; named = refl }
+told d (event.powered-on stored name start ks h n) = record { refusal = λ h. absurd (true_is (sym h)); tried = refl; named = refl }
 told d (event.malformed stored name start) = record { refusal = λ h. (refl, refl, refl); tried = refl; named = refl }
 told d (event.device-late t e) = record { refusal = λ h. (refl, refl, refl); tried = refl; named = refl }
 told d (event.device-changed t e) = record { refusal = λ h. absurd (true_is (sym h)); tried = refl; named = refl }
 told d (event.unknown_link l t e) = record { refusal = λ h. (refl, refl, refl); tried = refl; named = refl }
-told d (event.refused_early l t e h) = record {
-  refusal = λ _. (refl, (early_nothing d l t e).changes h, refl);
-  tried = (early_nothing d l t e).tells h (search_in d (OnLink l t e)).tried;
-  named = (early_nothing d l t e).names h (search_in d (OnLink l t e)).named;
+told d (event.refused_early l t e a p h) = record {
+  refusal = λ _. (refl, (early_nothing d l t e p).changes, refl);
+  tried = (early_nothing d l t e p).tells (search_in d (OnLink l t e)).tried;
+  named = (early_nothing d l t e p).names (named_in (search_in d (OnLink l t e)).found);
 }
 told d (event.link-late l t e) = record { refusal = λ h. (refl, refl, refl); tried = refl; named = refl }
 told d (event.on_link_lem l t e k) = told_on_link d l t e

@@ -9,7 +9,7 @@ use lib.Dec.{eqb}
 use borrow.Author.Tests.{eqb-true}
 use Rattle.laws.proofs.Choice.{true_is, if_same, and_left, and_right, and_false, and_true_left, or_false_left, or_false_right}
 use Rattle.laws.specs.Choice.{◌and◌, ◌or◌}
-use Rattle.std.specs.Prelude.{if◌then◌else◌}
+use Rattle.std.specs.Prelude.{if◌then◌else◌, None, Option}
 use Rattle.basics.proofs.Answers.{unlike, number_taken}
 use Rattle.basics.specs.Answers.{is_taken}
 use Rattle.basics.specs.declared.Answer.TheVariants.{Taken, UnknownLink, ClockWentBack, LockedOut, NotInPairingMode, NoKeyFits, SaltSpent, RotationAwaited}
@@ -17,9 +17,8 @@ use Rattle.key_based.proofs.Deciding.{Way, locked, awaited, unasked, no-fit, spe
 use Rattle.key_based.specs.Named.{asks_rotation}
 use Rattle.key_based.specs.declared.Context.{Context}
 use Rattle.key_based.specs.declared.Decision.{Decision}
-use Rattle.key_based.specs.declared.Element.{Element}
 use Rattle.key_based.specs.declared.Search.{Search}
-use Rattle.key_based.specs.declared.named.Named.TheVariants.{Neither}
+use Rattle.key_based.specs.Search.{named_in}
 use Rattle.provider.proofs.Theorems.Refusals.{address_told}
 use Rattle.provider.proofs.Theorems.Ways as event
 use Rattle.provider.proofs.Theorems.Ways.{way}
@@ -55,14 +54,14 @@ follows_on_link d l t (OnSession e) = refl
 
 follows : (d : Device) {e : Event} {x : Effect} → event.Way d e x → x.gives.next.wait ≡ wait_then e x.gives.reply d.wait
 follows d event.marker = refl
-follows d (event.powered-on stored name start h n) = refl
+follows d (event.powered-on stored name start ks h n) = refl
 follows d (event.malformed stored name start) = refl
 follows d (event.device-late t (PairingMode on)) = refl
 follows d (event.device-late t (AddressRotated ble salt)) = refl
 follows d (event.device-late t FactoryReset) = refl
 follows d (event.device-changed t e) = follows_on_device d t e
 follows d (event.unknown_link l t e) = refl
-follows d (event.refused_early l t e h) = refl
+follows d (event.refused_early l t e a p h) = refl
 follows d (event.link-late l t e) = refl
 follows d (event.on_link_lem l t e k) = follows_on_link d l t e
 
@@ -70,12 +69,12 @@ pub wait_follows : WaitFollows
 wait_follows d e = follows d (way d e)
 
 -- an event that tries no key names no address
-names_neither : (d : Device) (e : Event) → (search_in d e).named ≡ Neither → (step d e).gives.reply.named ≡ Neither
-names_neither d e s =
-    address_told d e ∙ ap (told_named (answer_of d e)) s ∙ if_same (is_taken (answer_of d e)) {x = Neither} (λ _. refl)
+names_none : (d : Device) (e : Event) → named_in (search_in d e).found ≡ None → (step d e).gives.reply.named ≡ None
+names_none d e s =
+    address_told d e ∙ ap (told_named (answer_of d e)) s ∙ if_same (is_taken (answer_of d e)) {x = None} (λ _. refl)
 
 -- only a key-based write tries keys
-searches_none : (d : Device) (e : Event) → may_begin e ≡ false → (search_in d e).named ≡ Neither
+searches_none : (d : Device) (e : Event) → may_begin e ≡ false → named_in (search_in d e).found ≡ None
 searches_none d Overflow h = refl
 searches_none d (PowerOn stored name start) h = refl
 searches_none d (OnDevice t e) h = refl
@@ -88,7 +87,7 @@ pub wait_kept : WaitKept
 wait_kept d e h = go (is_taken (answer_of d e)) refl
   where
     -- neither lifted nor begun
-    stays : (lifts e and is_taken (answer_of d e)) ≡ false → (step d e).gives.reply.named ≡ Neither → (next d e).wait ≡ d.wait
+    stays : (lifts e and is_taken (answer_of d e)) ≡ false → (step d e).gives.reply.named ≡ None → (next d e).wait ≡ d.wait
     stays l n = wait_follows d e ∙ rw (l, n)
 
     go : (b : Bool) → is_taken (answer_of d e) ≡ b → (next d e).wait ≡ d.wait
@@ -97,7 +96,7 @@ wait_kept d e h = go (is_taken (answer_of d e)) refl
         let neither : (lifts e or may_begin e) ≡ false =
         and_true_left (lifts e or may_begin e) (ap (λ (b : Bool). (lifts e or may_begin e) and b) (sym p) ∙ h) in
         stays (rw (or_false_left (lifts e) (may_begin e) neither))
-        (names_neither d e (searches_none d e (or_false_right (lifts e) (may_begin e) neither)))
+        (names_none d e (searches_none d e (or_false_right (lifts e) (may_begin e) neither)))
 
 pub rows_never_both : NeverBoth
 rows_never_both d v = never_both d.wait d.guard v.wait
@@ -125,9 +124,9 @@ module _ (d : Device) (on : d.wait.on ≡ true) where
   none-decided w unasked e = unlike NotInPairingMode Taken tt e
   none-decided w (no-fit h a) e = unlike NoKeyFits Taken tt e
   none-decided w spent e = unlike SaltSpent Taken tt e
-  none-decided w (taken h p a) e = true_is (sym a ∙ w)
+  none-decided w (taken f z p a) e = true_is (sym a ∙ w)
 
-  none-on-link : (m t : ℕ) (request : List ℕ) (element : Element) (salt nonce out packet : List ℕ)
+  none-on-link : (m t : ℕ) (request : List ℕ) (element : Option (List ℕ)) (salt nonce out packet : List ℕ)
       → answer_of d (OnLink m t (KeyBasedWrite request element salt nonce out packet)) ≡ Taken → ⊥
   unfolding clock_step
   none-on-link m t request element salt nonce out packet =
@@ -136,7 +135,7 @@ module _ (d : Device) (on : d.wait.on ≡ true) where
       go : {x : Effect} → event.Way d (OnLink m t (KeyBasedWrite request element salt nonce out packet)) x
           → x.gives.reply.answer ≡ Taken → ⊥
       go (event.unknown_link m t e) h = unlike UnknownLink Taken tt h
-      go (event.refused_early m t e q) h = true_is (sym q ∙ ap is_taken h)
+      go (event.refused_early m t e a p q) h = true_is (sym q ∙ ap is_taken h)
       go (event.link-late m t e) h = unlike ClockWentBack Taken tt h
       go (event.on_link_lem m t e k) h =
           none-decided on
@@ -174,8 +173,8 @@ none_until_lifted (e ∷ es) d on =
 begins : (d : Device) (e : Event) → asks_rotation (step d e).gives.reply.named ≡ true → (next d e).wait.on ≡ true
 begins d Overflow r = absurd (true_is r)
 begins d (PowerOn stored name start) r =
-    absurd (true_is (sym (ap asks_rotation (names_neither d (PowerOn stored name start) refl)) ∙ r))
-begins d (OnDevice t e) r = absurd (true_is (sym (ap asks_rotation (names_neither d (OnDevice t e) refl)) ∙ r))
+    absurd (true_is (sym (ap asks_rotation (names_none d (PowerOn stored name start) refl)) ∙ r))
+begins d (OnDevice t e) r = absurd (true_is (sym (ap asks_rotation (names_none d (OnDevice t e) refl)) ∙ r))
 begins d (OnLink l t e) r = ap (λ (w : RotationWait). w.on) (wait_follows d (OnLink l t e) ∙ rw r)
 
 pub none_while_awaited : NoneWhileAwaited rules

@@ -11,8 +11,8 @@ use Rattle.account_keys.specs.Keys.{limit, held, member, without, used, stored}
 use Rattle.account_keys.specs.StoredList.{reading, writing}
 use Rattle.account_keys.specs.declared.AccountKey.{AccountKey}
 use Rattle.account_keys.specs.declared.AccountKeys.{AccountKeys}
-use Rattle.account_keys.specs.declared.Reading.{Reading}
-use Rattle.provider.specs.Demands.Gap.{rules, Lists, Stores}
+use Rattle.std.specs.Prelude.{Option}
+use Rattle.provider.specs.Demands.Gap.{listed, rules, Lists, Stores}
 use Rattle.provider.specs.Rules.Event.{Event, next}
 use Rattle.provider.specs.declared.Device.{Device}
 use Rattle.account_keys.specs.Keys as keys
@@ -33,8 +33,8 @@ member_stored l k = go (member l k) (leb limit (length l)) refl
 
 -- a valid list, written out, lists its members
 pub lists : (ks : AccountKeys) (k : AccountKey) → keys.Valid ks
-    → member (held (reading (writing (held ks))).keys) k ≡ member (held ks) k
-lists ks k v = ap (λ (r : Reading). member (held r.keys) k) (reads_back ks v)
+    → listed (reading (writing (held ks))) k ≡ member (held ks) k
+lists ks k v = ap (λ (r : Option AccountKeys). listed r k) (reads_back ks v)
 
 -- an event after which no other key is held stores none
 pub stores_none : (d : Device) (e : Event) (k : AccountKey) → keys.Valid d.keys → keys.Valid (next d e).keys

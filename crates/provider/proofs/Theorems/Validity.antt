@@ -5,13 +5,13 @@ use mathlib.Core.List.{List, [], ◌∷◌}
 use mathlib.Core.Path.{◌≡◌, refl}
 use Prim.Native.Nat.{ℕ, ◌<◌}
 use Rattle.laws.proofs.All.{all_get}
-use Rattle.std.specs.Prelude.{if◌then◌else◌}
+use Rattle.std.specs.Prelude.{Option, Some, None}
 use Rattle.account_keys.proofs.ReadBack.{reads_back, reads_valid}
 use Rattle.account_keys.proofs.Storing.{stores_valid}
 use Rattle.account_keys.proofs.Use.{uses_valid}
 use Rattle.account_keys.specs.Keys as keys
 use Rattle.account_keys.specs.Keys.{held, kept, stored}
-use Rattle.account_keys.specs.StoredList.{reading}
+use Rattle.account_keys.specs.declared.AccountKey.{AccountKey}
 use Rattle.account_keys.specs.declared.AccountKeys.{AccountKeys}
 use Rattle.basics.proofs.Answers.{unlike}
 use Rattle.basics.specs.declared.Answer.TheVariants.{Taken, ListMalformed}
@@ -26,6 +26,7 @@ use Rattle.names.proofs.ValidNames.{name_of_valid, no_name_valid}
 use Rattle.names.specs.Name as names
 use Rattle.names.specs.Name.{name_of}
 use Rattle.names.specs.declared.Name.{Name}
+use Rattle.pairing.specs.Pairing as pairing
 use Rattle.pairing.specs.Pairing.{stored_in, renamed_in}
 use Rattle.pairing.specs.declared.SessionOutcome.{SessionOutcome}
 use Rattle.provider.proofs.Theorems.ValidParts.{no_keys_valid, keys_valid, guard_valid, wait_valid, beacon_valid, name_valid, link_valid, drop_at_valid, drop_all_valid, clock_step_valid, started_valid}
@@ -44,13 +45,14 @@ use Rattle.sessions.specs.Sessions.{Canonical, link_count, absent_session, sessi
 -- ---- events on a link
 
 -- an account key that may be stored
-pub stored_valid : (a : SessionOutcome) (ks : AccountKeys) → keys.Valid ks → (a.stores ≡ true → Storable a.key)
+pub stored_valid : (a : SessionOutcome) (ks : AccountKeys) → keys.Valid ks
+    → ((k : AccountKey) → a.key ≡ Some k → Storable k)
     → keys.Valid (stored_in a ks)
-stored_valid a ks v p = go a.stores refl
+stored_valid a ks v p = go a.key refl
   where
-    go : (b : Bool) → a.stores ≡ b → keys.Valid (if b then kept (stored (held ks) a.key) else ks)
-    go true e = stores_valid ks a.key v (p e).0 (p e).1
-    go false e = v
+    go : (k : Option AccountKey) → a.key ≡ k → keys.Valid (pairing.with_stored k ks)
+    go None e = v
+    go (Some k) e = stores_valid ks k v (p k e).0 (p k e).1
 
 -- the key of an accepted request, which is used or not
 pub used_valid : (uses : Bool) (key : List ℕ) (ks : AccountKeys) → keys.Valid ks → keys.Valid (used_in uses key ks)
@@ -58,13 +60,13 @@ used_valid true key ks v = uses_valid ks (record { bytes = key }) v
 used_valid false key ks v = v
 
 -- and a name that may be taken
-renamed_valid : (a : SessionOutcome) (n : Name) → names.Valid n → (a.renames ≡ true → names.Valid a.name)
+renamed_valid : (a : SessionOutcome) (n : Name) → names.Valid n → ((m : Name) → a.name ≡ Some m → names.Valid m)
     → names.Valid (renamed_in a n)
-renamed_valid a n v p = go a.renames refl
+renamed_valid a n v p = go a.name refl
   where
-    go : (b : Bool) → a.renames ≡ b → names.Valid (if b then a.name else n)
-    go true e = p e
-    go false e = v
+    go : (m : Option Name) → a.name ≡ m → names.Valid (pairing.with_taken m n)
+    go None e = v
+    go (Some m) e = p m e
 
 module _ {d : Device} (v : Valid d) (l : ℕ) (k : l < link_count) where
   session_canonical : Canonical (session_at d.sessions l)
@@ -83,10 +85,10 @@ module _ {d : Device} (v : Valid d) (l : ℕ) (k : l < link_count) where
       link_valid (guard_valid v _ (failed_valid d.guard v.guard t h) (off_uncounted d.wait (failed_at t d.guard) a)) l _
       session_canonical
   decision-valid spent = refused-valid
-  decision-valid {t} {uses} {f} (taken h p a) =
+  decision-valid {t} {uses} (taken f z p a) =
       link_valid (wait_valid (guard_valid (keys_valid v _ (used_valid uses f.key d.keys v.keys)) _
       (accepted_valid d.guard v.guard _ p) (accepted_uncounted d.wait d.guard (request_salt f.plain))) _
-      (accepted_uncounted (wait_after (asks_rotation f.named) d.wait) d.guard (request_salt f.plain))) l _ (in_a_stage (asked f.key t) refl)
+      (accepted_uncounted (wait_after (asks_rotation (Some f.named)) d.wait) d.guard (request_salt f.plain))) l _ (in_a_stage (asked f.key t) refl)
 
   applied-valid : {a : SessionOutcome} → Lawful (session_at d.sessions l) a → Valid (applied d l a).next
   applied-valid {a} p =
@@ -112,13 +114,13 @@ device_valid FactoryReset {d} v =
 
 leaves_valid : {d : Device} {e : Event} {x : Effect} → event.Way d e x → Valid d → Valid x.gives.next
 leaves_valid event.marker v = drop_all_valid v
-leaves_valid (event.powered-on stored name start h n) v =
-    started_valid (reading stored).keys (name_of name) start (reads_valid stored h) (name_of_valid name n)
+leaves_valid (event.powered-on stored name start ks h n) v =
+    started_valid ks (name_of name) start (reads_valid stored ks h) (name_of_valid name n)
 leaves_valid (event.malformed stored name start) v = v
 leaves_valid (event.device-late t e) v = drop_all_valid v
 leaves_valid (event.device-changed t e) v = device_valid e (clock_step_valid v t)
 leaves_valid (event.unknown_link l t e) v = v
-leaves_valid (event.refused_early l t e h) v = v
+leaves_valid (event.refused_early l t e a p h) v = v
 leaves_valid (event.link-late l t e) v = drop_all_valid v
 leaves_valid (event.on_link_lem l t e k) v = on-link-valid (clock_step_valid v t) l k e t
 
@@ -135,8 +137,8 @@ pub starts_valid : StartsValid
 starts_valid d stored name start = go (way d (PowerOn stored name start))
   where
     go : {x : Effect} → event.Way d (PowerOn stored name start) x → x.gives.reply.answer ≡ Taken → Valid x.gives.next
-    go (event.powered-on stored name start h n) e =
-        started_valid (reading stored).keys (name_of name) start (reads_valid stored h) (name_of_valid name n)
+    go (event.powered-on stored name start ks h n) e =
+        started_valid ks (name_of name) start (reads_valid stored ks h) (name_of_valid name n)
     go (event.malformed stored name start) e = absurd (unlike ListMalformed Taken tt e)
 
 pub stored_list_reads_back : StoredListReadsBack

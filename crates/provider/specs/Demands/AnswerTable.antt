@@ -1,13 +1,10 @@
 -- Demand 1: document 01's answer table, row by row, beside the rules of the events.
 -- Assumes nothing.
-use Rattle.std.specs.Prelude.{Bool, true, false, not, List, [], ◌∷◌, ◌++◌, ◌≡◌, ℕ, ltb, length, if◌then◌else◌}
+use Rattle.std.specs.Prelude.{Bool, true, false, not, List, [], ◌∷◌, ◌++◌, ◌≡◌, ℕ, ltb, length, if◌then◌else◌, is_none}
 use Rattle.account_keys.specs.StoredList.{reading}
-use Rattle.account_keys.specs.declared.ListForm.{ListForm}
-use Rattle.account_keys.specs.declared.ListForm.TheVariants.{WellFormed, Malformed}
 use Rattle.basics.specs.Answers.{answer_number}
 use Rattle.additional_data.specs.Packet.{opened, packet_sized}
 use Rattle.key_based.specs.Decision.{salt_known, tried_keys, unwanted}
-use Rattle.key_based.specs.Named.{fits}
 use Rattle.key_based.specs.Request.{sized}
 use Rattle.names.specs.Name.{is_name}
 use Rattle.pairing.specs.Pairing.{PairingEvent, PairingStarted, ConfirmationNeeded, PasskeyWrite, PairingEnded, AccountKeyWrite, NameWrite, refused_capability, bad_block}
@@ -73,7 +70,7 @@ rows_on_session (AccountKeyWrite block) s =
 rows_on_session (NameWrite packet) s =
     row 9 (is_stage s.stage Idle)
     ∷ row 10 (is_stage s.stage Paired)
-    ∷ row 15 (not (opened s.key packet).good)
+    ∷ row 15 (is_none (opened s.key packet))
     ∷ []
 
 -- 5: "count is 10"; document 02 (vii), 16, "after 5 and before 6": until the rotation; 6: "80 bytes, pairing mode off"; 7: "no candidate fits"; 8: "fits, salt remembered"
@@ -84,22 +81,18 @@ rows_after_clock (KeyBasedWrite request element salt nonce out packet) d l =
     row 5 (locked d.guard)
     ∷ row 16 d.wait.on
     ∷ row 6 (unwanted (context_of d) request)
-    ∷ row 7 (not (fits (tried_keys (context_of d) element request).named))
-    ∷ row 8 (salt_known d.guard (tried_keys (context_of d) element request))
+    ∷ row 7 (is_none (tried_keys (context_of d) element request).found)
+    ∷ row 8 (salt_known d.guard (tried_keys (context_of d) element request).found)
     ∷ []
 rows_after_clock (OnSession e) d l = rows_on_session e (session_at d.sessions l)
-
--- 14: "stored list malformed"; document 02 (i): "a bad one gets 14"
-abbrev pub malformed : ListForm → Bool
-malformed WellFormed = false
-malformed Malformed = true
 
 -- 1: "link above 7"; 4: "clock below the stored clock". "Checked in this order: 1, 2, 3, 13, 4, then 5, 6, 7, 8 for key-based
 -- writes, or 9, 10, 11, 12 for pairing, passkey and account key events. Power-on knows only 0 and 14."; 9, 10, 15 for name writes
 unfoldable pub rows : Device → Event → List Row
 rows d Overflow = []
 rows d (PowerOn stored name start) =
-    row 14 (malformed (reading stored).form) ∷ row 14 (not (is_name name)) ∷ []
+    -- 14: "stored list malformed"; document 02 (i): "a bad one gets 14"
+    row 14 (is_none (reading stored)) ∷ row 14 (not (is_name name)) ∷ []
 rows d (OnDevice t e) = row 4 (ltb t d.clock.0) ∷ []
 rows d (OnLink l t e) =
     row 1 (ltb 7 l) ∷ rows_before_clock e ++ (row 4 (ltb t d.clock.0) ∷ rows_after_clock e (clock_step t d) l)

@@ -1,10 +1,11 @@
 -- Demand 3, "A gap only takes away": one claim about the whole list of events and every way of adding overflow markers.
 -- Assumes nothing.
-use Rattle.std.specs.Prelude.{Bool, true, false, List, [], ◌∷◌, ◌⊎◌, ◌≡◌, ℕ, eqb}
+use Rattle.std.specs.Prelude.{Bool, true, false, List, [], ◌∷◌, ◌⊎◌, ◌≡◌, ℕ, eqb, Option, Some, None}
 use Rattle.laws.specs.Choice.{◌and◌, ◌or◌}
 use Rattle.account_keys.specs.Keys.{held, member}
 use Rattle.account_keys.specs.StoredList.{reading}
 use Rattle.account_keys.specs.declared.AccountKey.{AccountKey}
+use Rattle.account_keys.specs.declared.AccountKeys.{AccountKeys}
 use Rattle.basics.specs.Answers.{answer_number}
 use Rattle.basics.specs.declared.Answer.TheVariants.{Taken}
 use Rattle.key_based.specs.Named.{asks_rotation}
@@ -95,9 +96,14 @@ rules =
       rotate = λ d e. asks_rotation (step d e).gives.reply.named;
     }
 
+-- a key of a list that was read; a malformed one holds none
+abbrev pub listed : Option AccountKeys → AccountKey → Bool
+listed (Some ks) k = member (held ks) k
+listed None k = false
+
 -- a key that a written list holds
 abbrev pub Lists : List ℕ → AccountKey → Type 0
-Lists b k = member (held (reading b).keys) k ≡ true
+Lists b k = listed (reading b) k ≡ true
 
 module _ {S R : Type 0} (o : Observed S R) where
   -- "stores a key exactly if the stored list written out after it holds a key that the one written out before it does not"

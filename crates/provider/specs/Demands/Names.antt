@@ -1,11 +1,10 @@
 -- Document 02 (i): what changes the name, and "A sent packet that comes back unchanged under the same K must read as the name sent."
 -- Assumes nothing.
-use Rattle.std.specs.Prelude.{Bool, true, false, List, [], ◌≡◌, ℕ, ◌+◌, ◌≤◌, ◌<◌, length, take, get_or}
+use Rattle.std.specs.Prelude.{Bool, true, false, List, [], ◌≡◌, ℕ, ◌+◌, ◌≤◌, ◌<◌, length, take, get_or, Option}
 use Rattle.laws.specs.Choice.{◌and◌}
 use Rattle.additional_data.specs.Packet.{sealed}
 use Rattle.basics.specs.Answers.{is_taken}
 use Rattle.basics.specs.declared.Answer.TheVariants.{Taken}
-use Rattle.key_based.specs.declared.Element.{Element}
 use Rattle.names.specs.Name.{is_name, name_of}
 use Rattle.pairing.specs.Pairing.{NameWrite}
 use Rattle.provider.specs.Demands.Gap.{writes_name}
@@ -56,7 +55,7 @@ ComesBack d e l u = step (next d e) (name_written l u (sent_by (step d e))) ≡ 
 -- so of every accepted request with 0x20, in time
 abbrev pub PacketComesBack : Type 0
 PacketComesBack =
-    (d : Device) (l t u : ℕ) (request : List ℕ) (element : Element) (salt nonce out packet : List ℕ) → Valid d
+    (d : Device) (l t u : ℕ) (request : List ℕ) (element : Option (List ℕ)) (salt nonce out packet : List ℕ) → Valid d
     → length nonce ≡ 8
     → answer_of d (OnLink l t (KeyBasedWrite request element salt nonce out packet)) ≡ Taken
     → 0 < (step d (OnLink l t (KeyBasedWrite request element salt nonce out packet))).gives.reply.packet

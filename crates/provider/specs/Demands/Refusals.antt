@@ -1,16 +1,13 @@
 -- Demand 1: what a refusal changes, leaves and hands out, and the number of keys tried and the address named that every
 -- answer tells.
 -- Assumes nothing.
-use Rattle.std.specs.Prelude.{false, [], ◌∷◌, ◌≡◌, ℕ, if◌then◌else◌}
+use Rattle.std.specs.Prelude.{false, [], ◌∷◌, ◌≡◌, ℕ, if◌then◌else◌, Option, None}
 use Rattle.basics.specs.Answers.{is_taken, is_one_of}
 use Rattle.basics.specs.declared.Answer.{Answer}
 use Rattle.key_based.specs.Decision.{tried_keys}
-use Rattle.key_based.specs.Request.{no_bond}
-use Rattle.key_based.specs.Search.{none_fits}
+use Rattle.key_based.specs.Search.{none_fits, named_in}
 use Rattle.key_based.specs.declared.Search.{Search}
 use Rattle.key_based.specs.declared.named.Named.{Named}
-use Rattle.key_based.specs.declared.named.Named.TheVariants.{Neither}
-use Rattle.pairing.specs.declared.Confirm.TheVariants.{Unasked}
 use Rattle.provider.specs.Rules.Device.{clock_step, drop_all, drop_at, with_guard}
 use Rattle.provider.specs.Rules.Event.{Event, LinkEvent, LinkUp, LinkDown, KeyBasedWrite, OnSession, Overflow, PowerOn, OnDevice, OnLink, lent, context_of, step, next, answer_of}
 use Rattle.provider.specs.declared.Device.{Device}
@@ -64,17 +61,17 @@ told_tried a n = if is_one_of (0 ∷ 7 ∷ 8 ∷ []) a then n else 0
 abbrev pub NumberTried : Type 0
 NumberTried = (d : Device) (e : Event) → (step d e).gives.reply.tried ≡ told_tried (answer_of d e) (search_in d e).tried
 
--- document 02 (vii): "The accepted answer hands this on": the address that was named. Every other answer says neither
-abbrev pub told_named : Answer → Named → Named
-told_named a n = if is_taken a then n else Neither
+-- document 02 (vii): "The accepted answer hands this on": the address that was named. Every other answer names none
+abbrev pub told_named : Answer → Option Named → Option Named
+told_named a n = if is_taken a then n else None
 
 abbrev pub AddressTold : Type 0
-AddressTold = (d : Device) (e : Event) → (step d e).gives.reply.named ≡ told_named (answer_of d e) (search_in d e).named
+AddressTold = (d : Device) (e : Event) → (step d e).gives.reply.named ≡ told_named (answer_of d e) (named_in (search_in d e).found)
 
 -- a refusal names no address and hands out none for bonding, no word on a passkey and no packet
 abbrev pub refusing : Reply → Reply
 refusing r =
-    record { answer = r.answer; tried = r.tried; named = Neither; bond = no_bond; confirm = Unasked; packet = 0 }
+    record { answer = r.answer; tried = r.tried; named = None; bond = None; confirm = None; packet = 0 }
 
 abbrev pub RefusalsHandOutOnlyTried : Type 0
 RefusalsHandOutOnlyTried =

@@ -1,12 +1,11 @@
 -- Document 01, "Samples from the bench": all that are marked P, in one table, with those of document 02 (vi).
 -- Assumes nothing.
-use Rattle.std.specs.Prelude.{true, false, List, [], ◌∷◌, ◌++◌, map, ◌≡◌, ℕ, replicate}
+use Rattle.std.specs.Prelude.{true, false, List, [], ◌∷◌, ◌++◌, map, ◌≡◌, ℕ, replicate, Option, Some, None}
 use Rattle.laws.specs.BigEndian.{bytes}
 use Rattle.laws.specs.Tabulate.{tabulate}
 use Rattle.account_keys.specs.StoredList.{writing_under, writing, reading}
 use Rattle.account_keys.specs.declared.AccountKey.{AccountKey}
-use Rattle.account_keys.specs.declared.ListForm.{ListForm}
-use Rattle.account_keys.specs.declared.ListForm.TheVariants.{WellFormed, Malformed}
+use Rattle.account_keys.specs.declared.AccountKeys.{AccountKeys}
 use Rattle.advertising.specs.declared.Prompt.TheVariants.{Show}
 use Rattle.advertising.specs.Filter.{filter_size, place_of, byte_of, bit_of}
 use Rattle.advertising.specs.Payload.{payload}
@@ -18,12 +17,12 @@ abbrev pub byte_and_bit : ℕ → ℕ → List ℕ
 byte_and_bit s x = byte_of (place_of s x) ∷ bit_of (place_of s x) ∷ []
 
 -- the number of keys that a stored list reads as; a malformed one has none to tell
-abbrev pub count_of : ListForm → ℕ → List ℕ
-count_of WellFormed n = n ∷ []
-count_of Malformed n = []
+abbrev pub count_of : Option AccountKeys → List ℕ
+count_of (Some ks) = ks.count ∷ []
+count_of None = []
 
 abbrev pub count_read : List ℕ → List ℕ
-count_read b = count_of (reading b).form (reading b).keys.count
+count_read b = count_of (reading b)
 
 -- n account keys, which differ in their last byte
 abbrev pub keys : ℕ → List AccountKey

@@ -2,7 +2,7 @@
 -- end": what changes the list, which key a request uses, that the order is that of use, who is evicted, and that
 -- the order shows in no payload.
 -- Assumes nothing.
-use Rattle.std.specs.Prelude.{Bool, true, false, List, [], ◌∷◌, ◌⊎◌, ◌≡◌, ℕ, ◌-◌, length, get_or}
+use Rattle.std.specs.Prelude.{Bool, true, false, List, [], ◌∷◌, ◌⊎◌, ◌≡◌, ℕ, ◌-◌, length, get_or, Option}
 use Rattle.laws.specs.Choice.{◌and◌, ◌or◌}
 use Rattle.account_keys.specs.Keys.{limit, zero_key, held, kept, member, used}
 use Rattle.account_keys.specs.Promises.{stands_before}
@@ -12,7 +12,6 @@ use Rattle.basics.specs.Answers.{is_taken}
 use Rattle.basics.specs.Bytes.{same}
 use Rattle.basics.specs.declared.Answer.TheVariants.{Taken}
 use Rattle.key_based.specs.Decision.{uses_key}
-use Rattle.key_based.specs.declared.Element.{Element}
 use Rattle.pairing.specs.Pairing.{is_account_key_write, written_key}
 use Rattle.provider.specs.Demands.Gap.{rules, Stores}
 use Rattle.provider.specs.Demands.Names.{session_then}
@@ -63,7 +62,7 @@ pub record UsesToldKey (d : Device) (l : ℕ) (x : Effect) : Type 0 where
 
 abbrev pub RequestUsesToldKey : Type 0
 RequestUsesToldKey =
-    (d : Device) (l t : ℕ) (request : List ℕ) (element : Element) (salt nonce out packet : List ℕ) → Valid d
+    (d : Device) (l t : ℕ) (request : List ℕ) (element : Option (List ℕ)) (salt nonce out packet : List ℕ) → Valid d
     → uses_key request ≡ true
     → answer_of d (OnLink l t (KeyBasedWrite request element salt nonce out packet)) ≡ Taken
     → UsesToldKey d l (step d (OnLink l t (KeyBasedWrite request element salt nonce out packet)))
@@ -145,5 +144,5 @@ OrderNotAdvertised =
 -- so of every request, accepted or refused
 abbrev pub RequestKeepsPayload : Type 0
 RequestKeepsPayload =
-    (d : Device) (l t : ℕ) (request : List ℕ) (element : Element) (salt nonce out packet : List ℕ) (prompt : Prompt) → Valid d
+    (d : Device) (l t : ℕ) (request : List ℕ) (element : Option (List ℕ)) (salt nonce out packet : List ℕ) (prompt : Prompt) → Valid d
     → advertised (next d (OnLink l t (KeyBasedWrite request element salt nonce out packet))) prompt ≡ advertised d prompt

@@ -1,10 +1,9 @@
 -- What every device has that came from power-on or an event, and demand 2's sentence about its stored list.
 -- Assumes nothing.
-use Rattle.std.specs.Prelude.{true, List, ◌≡◌, ℕ, length}
+use Rattle.std.specs.Prelude.{true, List, ◌≡◌, ℕ, length, Some}
 use Rattle.laws.specs.Lists.{All}
 use Rattle.account_keys.specs.Keys as keys
 use Rattle.account_keys.specs.StoredList.{reading, writing}
-use Rattle.account_keys.specs.declared.ListForm.TheVariants.{WellFormed}
 use Rattle.basics.specs.declared.Answer.TheVariants.{Taken}
 use Rattle.names.specs.Name as names
 use Rattle.provider.specs.Rules.Event.{Event, PowerOn, next, answer_of}
@@ -39,4 +38,4 @@ written d = writing (keys.held d.keys)
 -- "The stored list reads back as it was written."
 abbrev pub StoredListReadsBack : Type 0
 StoredListReadsBack =
-    (d : Device) → Valid d → reading (written d) ≡ record { form = WellFormed; keys = d.keys }
+    (d : Device) → Valid d → reading (written d) ≡ Some d.keys

@@ -1,18 +1,17 @@
 -- Document 01: overflow marker, power-on, pairing mode, rotation and factory reset; the advertisement. Document 02 (v): the filter
 -- is built where the list or the salt changes, and the advertisement reads it; (vii): what lifts the wait for a rotation.
 -- Assumes nothing.
-use Rattle.std.specs.Prelude.{Bool, List, [], length, replicate, ℕ, if◌then◌else◌}
+use Rattle.std.specs.Prelude.{Bool, List, [], length, replicate, ℕ, Option, Some, None}
 use Rattle.account_keys.specs.Keys.{held, kept}
 use Rattle.account_keys.specs.StoredList.{reading}
 use Rattle.account_keys.specs.declared.AccountKeys.{AccountKeys}
-use Rattle.account_keys.specs.declared.ListForm.{ListForm}
-use Rattle.account_keys.specs.declared.ListForm.TheVariants.{WellFormed, Malformed}
 use Rattle.advertising.specs.Beacon as beacon
 use Rattle.advertising.specs.Beacon.{in_pairing_mode, rotated, beacon_payload}
 use Rattle.advertising.specs.declared.Prompt.{Prompt}
 use Rattle.basics.specs.declared.Address.{Address}
 use Rattle.basics.specs.declared.Answer.TheVariants.{ListMalformed}
-use Rattle.names.specs.Name.{is_name, name_of, no_name}
+use Rattle.names.specs.Name as names
+use Rattle.names.specs.Name.{no_name}
 use Rattle.names.specs.declared.Name.{Name}
 use Rattle.provider.specs.Rules.Device.{Effect, answers, takes, drop_all, with_guard, with_wait, with_keys, with_beacon, with_name}
 use Rattle.provider.specs.declared.Device.{Device}
@@ -56,19 +55,19 @@ started ks name s =
       name = name;
     }
 
--- "no device made; an earlier one stays as it was"
-abbrev pub by_form : ListForm → Effect → Effect → Effect
-by_form WellFormed x y = x
-by_form Malformed x y = y
-
 -- "given at power-on (a bad one gets 14)"
-abbrev pub by_name : Device → AccountKeys → List ℕ → Start → Effect
-by_name d ks name s = if is_name name then takes (started ks (name_of name) s) else answers d ListMalformed []
+abbrev pub by_name : Device → AccountKeys → Option Name → Start → Effect
+by_name d ks (Some name) s = takes (started ks name s)
+by_name d ks None s = answers d ListMalformed []
+
+-- "no device made; an earlier one stays as it was"
+abbrev pub by_list : Device → Option AccountKeys → Option Name → Start → Effect
+by_list d (Some ks) name s = by_name d ks name s
+by_list d None name s = answers d ListMalformed []
 
 -- "Power-on knows only 0 and 14."
 unfoldable pub power_on : Device → List ℕ → List ℕ → Start → Effect
-power_on d stored name s =
-    by_form (reading stored).form (by_name d (reading stored).keys name s) (answers d ListMalformed [])
+power_on d stored name s = by_list d (reading stored) (names.reading name) s
 
 -- the value before any device
 abbrev pub no_address : Address

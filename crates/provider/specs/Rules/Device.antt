@@ -1,16 +1,11 @@
 -- Document 01, "The device and its events": the parts of a device, what an event does, and the checks before it.
 -- Assumes nothing.
-use Rattle.std.specs.Prelude.{not, List, [], ℕ, ltb, if◌then◌else◌}
+use Rattle.std.specs.Prelude.{List, [], ◌≡◌, ℕ, ltb, if◌then◌else◌, None, Result, Ok, Err}
 use Rattle.account_keys.specs.declared.AccountKeys.{AccountKeys}
 use Rattle.advertising.specs.declared.Beacon.{Beacon}
-use Rattle.basics.specs.Answers.{is_taken}
 use Rattle.basics.specs.declared.Answer.{Answer}
 use Rattle.basics.specs.declared.Answer.TheVariants.{Taken, UnknownLink, ClockWentBack}
-use Rattle.key_based.specs.Request.{no_bond}
-use Rattle.key_based.specs.declared.named.Named.TheVariants.{Neither}
 use Rattle.names.specs.declared.Name.{Name}
-use Rattle.pairing.specs.declared.Confirm.TheVariants.{Unasked}
-use Rattle.provider.specs.declared.Checked.{Checked}
 use Rattle.provider.specs.declared.Device.{Device}
 use Rattle.provider.specs.declared.Outcome.{Outcome}
 use Rattle.provider.specs.declared.Reply.{Reply}
@@ -24,82 +19,22 @@ use Rattle.sessions.specs.declared.Sessions.{Sessions}
 -- ---- a device with one part changed
 
 abbrev pub with_keys : Device → AccountKeys → Device
-with_keys d ks =
-    record {
-      clock = d.clock;
-      keys = ks;
-      sessions = d.sessions;
-      guard = d.guard;
-      wait = d.wait;
-      identity = d.identity;
-      beacon = d.beacon;
-      name = d.name;
-    }
+with_keys d ks = record d { keys = ks }
 
 abbrev pub with_sessions : Device → Sessions → Device
-with_sessions d ss =
-    record {
-      clock = d.clock;
-      keys = d.keys;
-      sessions = ss;
-      guard = d.guard;
-      wait = d.wait;
-      identity = d.identity;
-      beacon = d.beacon;
-      name = d.name;
-    }
+with_sessions d ss = record d { sessions = ss }
 
 abbrev pub with_guard : Device → Guard → Device
-with_guard d g =
-    record {
-      clock = d.clock;
-      keys = d.keys;
-      sessions = d.sessions;
-      guard = g;
-      wait = d.wait;
-      identity = d.identity;
-      beacon = d.beacon;
-      name = d.name;
-    }
+with_guard d g = record d { guard = g }
 
 abbrev pub with_wait : Device → RotationWait → Device
-with_wait d w =
-    record {
-      clock = d.clock;
-      keys = d.keys;
-      sessions = d.sessions;
-      guard = d.guard;
-      wait = w;
-      identity = d.identity;
-      beacon = d.beacon;
-      name = d.name;
-    }
+with_wait d w = record d { wait = w }
 
 abbrev pub with_beacon : Device → Beacon → Device
-with_beacon d b =
-    record {
-      clock = d.clock;
-      keys = d.keys;
-      sessions = d.sessions;
-      guard = d.guard;
-      wait = d.wait;
-      identity = d.identity;
-      beacon = b;
-      name = d.name;
-    }
+with_beacon d b = record d { beacon = b }
 
 abbrev pub with_name : Device → Name → Device
-with_name d n =
-    record {
-      clock = d.clock;
-      keys = d.keys;
-      sessions = d.sessions;
-      guard = d.guard;
-      wait = d.wait;
-      identity = d.identity;
-      beacon = d.beacon;
-      name = n;
-    }
+with_name d n = record d { name = n }
 
 -- "Drops K on all links."
 abbrev pub drop_all : Device → Device
@@ -121,7 +56,7 @@ pub record Effect : Type 0 where
 
 -- an answer that hands out nothing: "An answer given before trying says 0."
 abbrev pub reply_of : Answer → Reply
-reply_of a = record { answer = a; tried = 0; named = Neither; bond = no_bond; confirm = Unasked; packet = 0 }
+reply_of a = record { answer = a; tried = 0; named = None; bond = None; confirm = None; packet = 0 }
 
 abbrev pub given : Device → Answer → Outcome
 given d a = record { next = d; reply = reply_of a }
@@ -139,30 +74,28 @@ takes d = answers d Taken []
 -- "the clock is stored; then any K in asked, confirming or paired whose stage began 10,000 ms or more ago is dropped ..;
 -- then, if the last counted failure is 300,000 ms or more old, the failure count becomes 0. This is the clock step."
 unfoldable pub clock_step : ℕ → Device → Device
-clock_step t d =
-    record {
-      clock = record { 0 = t };
-      keys = d.keys;
-      sessions = expired t d.sessions;
-      guard = guard_at t d.guard;
-      wait = d.wait;
-      identity = d.identity;
-      beacon = d.beacon;
-      name = d.name;
-    }
+clock_step t d = record d { clock = record { 0 = t }; sessions = expired t d.sessions; guard = guard_at t d.guard }
 
--- answer 4, "clock below the stored clock": "K dropped on all links; clock stays"; else the clock step and what comes then
-unfoldable pub in_time : Device → ℕ → List (List ℕ) → (Device → Effect) → Effect
-in_time d t outs rest =
-    if ltb t d.clock.0 then answers (drop_all d) ClockWentBack outs else rest (clock_step t d)
+-- answer 4, "clock below the stored clock": "K dropped on all links; clock stays"; else the clock step
+unfoldable pub in_time : Device → ℕ → Result Device Outcome
+in_time d t = if ltb t d.clock.0 then Err (given (drop_all d) ClockWentBack) else Ok (clock_step t d)
 
--- "Checked in this order: 1, 2, 3, 13, 4": `early` is the answer of 2, 3 and 13, and 0 if they pass
-unfoldable pub on_known_link : Device → ℕ → ℕ → Answer → List (List ℕ) → (Device → Effect) → Effect
-on_known_link d l t early outs rest =
-    if ltb 7 l then answers d UnknownLink outs else
-    if not (is_taken early) then answers d early outs else
-    in_time d t outs rest
+-- a refusal of `early`, or what comes after it
+abbrev pub unless_refused : Device → Result Unit Answer → Result Device Outcome → Result Device Outcome
+unless_refused d (Ok u) after = after
+unless_refused d (Err a) after = Err (given d a)
 
--- what the checks hand over to the event
-abbrev pub checked_of : Outcome → Checked
-checked_of o = record { passed = is_taken o.reply.answer; outcome = o }
+-- "Checked in this order: 1, 2, 3, 13, 4": `early` is what 2, 3 and 13 come to
+unfoldable pub on_known_link : Device → ℕ → ℕ → Result Unit Answer → Result Device Outcome
+on_known_link d l t early = if ltb 7 l then Err (given d UnknownLink) else unless_refused d early (in_time d t)
+
+-- an event that these checks came before: a refusal leaves the lent outputs as they were, else the event goes on from the device
+-- after the clock step
+abbrev pub after_checks : Result Device Outcome → List (List ℕ) → (Device → Effect) → Effect
+after_checks (Ok d) outs rest = rest d
+after_checks (Err o) outs rest = record { gives = o; leaves = outs }
+
+-- the outcome is the refusal, or one that R ties to the device after the clock step
+abbrev pub Continues : Result Device Outcome → (Device → Outcome → Type 0) → Outcome → Type 0
+Continues (Ok d) R o = R d o
+Continues (Err r) R o = o ≡ r

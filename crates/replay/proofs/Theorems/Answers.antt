@@ -2,19 +2,19 @@
 -- Assumes nothing.
 use Rattle.std.proofs.Common.{◌≡◌, ℕ, suc, ◌≤◌, Bool, true, false, ltb, leb, List, [], ◌∷◌, ◌++◌, map, length, take, drop, refl, ap, ◌∙◌, take_at, ltb-false}
 use Rattle.laws.proofs.Choice.{or_right}
-use Rattle.std.specs.Prelude.{if◌then◌else◌}
+use Rattle.std.specs.Prelude.{Option, Some, None, Result, Ok, Err, IsOk, if◌then◌else◌}
+use Rattle.std.specs.Result.{result_unwrap_or}
 use Rattle.laws.specs.Lists.{All}
 use Rattle.account_keys.specs.StoredList.{reading}
-use Rattle.account_keys.specs.declared.ListForm.{ListForm}
-use Rattle.account_keys.specs.declared.ListForm.TheVariants.{WellFormed, Malformed}
+use Rattle.account_keys.specs.declared.AccountKeys.{AccountKeys}
 use Rattle.basics.proofs.Answers.{unlike}
 use Rattle.basics.specs.Answers.{is_taken}
-use Rattle.basics.specs.Output.{too_short, written}
+use Rattle.basics.specs.declared.Answer.{Answer}
 use Rattle.basics.specs.declared.Answer.TheVariants.{Taken, ListMalformed, WrongLength, OutputTooShort}
-use Rattle.names.specs.Name.{is_name, name_of}
+use Rattle.names.specs.Name as names
+use Rattle.names.specs.declared.Name.{Name}
 use Rattle.pairing.specs.Pairing.{PairingStarted, ConfirmationNeeded, PasskeyWrite, PairingEnded, AccountKeyWrite, NameWrite}
-use Rattle.provider.specs.Rules.Control.{power_on, by_form, started}
-use Rattle.provider.specs.Rules.Device.{takes, answers}
+use Rattle.provider.specs.Rules.Control.{power_on, by_list}
 use Rattle.provider.specs.Rules.Event.{Event, Overflow, PowerOn, OnDevice, OnLink, LinkUp, LinkDown, KeyBasedWrite, OnSession, step, next, answer_of}
 use Rattle.provider.specs.declared.Device.{Device}
 use Rattle.provider.specs.declared.Outcome.{Outcome}
@@ -24,7 +24,7 @@ use Rattle.recording.specs.Layout.{body, framed, kind_of}
 use Rattle.recording.specs.Promises.{Recorded, kept, records_of}
 use Rattle.recording.specs.Reading.{events}
 use Rattle.recording.specs.declared.Kind.TheVariants as kind
-use Rattle.recording.specs.Writing.{too_long, body_report, body_placed}
+use Rattle.recording.specs.Writing.{body_report, body_placed}
 use Rattle.replay.proofs.Theorems.Kept.{kept_gives}
 use Rattle.replay.specs.Promises.{Call, Took, recording_of, lines_given, LineForEach, ReplayGivesAnswers}
 use Rattle.replay_events.specs.Played.{played}
@@ -52,21 +52,22 @@ lines_on r (x ∷ xs) ys = ap (λ (l : List Line). (shown r x).line ∷ l) (line
 
 -- ---- what the writer took
 
--- a writer that answers 0 wrote the record, which is no longer than 1,024 bytes after its length field
-took_body : (b out : List ℕ) → (body_report b out).answer ≡ Taken
-    → (length b ≤ 1024) × (take (body_report b out).length (body_placed b out) ≡ framed b)
+-- a writer that gives a length wrote the record, which is no longer than 1,024 bytes after its length field
+took_body : (b out : List ℕ) → IsOk (body_report b out)
+    → (length b ≤ 1024) × (take (result_unwrap_or (body_report b out) 0) (body_placed b out) ≡ framed b)
 unfolding body_report body_placed
 took_body b out h = by_tests (ltb 1024 (length b)) (leb (length (framed b)) (length out)) refl h
   where
-    by_tests : (p q : Bool) → ltb 1024 (length b) ≡ p
-        → (if p then too_long else if q then written (length (framed b)) else too_short).answer ≡ Taken
+    report : Bool → Bool → Result ℕ Answer
+    report p q = if p then Err WrongLength else if q then Ok (length (framed b)) else Err OutputTooShort
+
+    by_tests : (p q : Bool) → ltb 1024 (length b) ≡ p → IsOk (report p q)
         → (length b ≤ 1024)
-        × (take (if p then too_long else if q then written (length (framed b)) else too_short).length
-        (if p then out else if q then framed b ++ drop (length (framed b)) out else out)
+        × (take (result_unwrap_or (report p q) 0) (if p then out else if q then framed b ++ drop (length (framed b)) out else out)
         ≡ framed b)
-    by_tests true q e h = absurd (unlike WrongLength Taken tt h)
+    by_tests true q e h = cc
     by_tests false true e h = (ltb-false 1024 (length b) e, take_at (framed b) (drop (length (framed b)) out) (length (framed b)) refl)
-    by_tests false false e h = absurd (unlike OutputTooShort Taken tt h)
+    by_tests false false e h = cc
 
 recorded : (c : Call) → Took c → Recorded c.event
 recorded c k = record { sized = k.sized; short = (took_body (body c.event) c.out k.taken).0 }
@@ -119,15 +120,13 @@ given_lines n d (c ∷ cs) =
 power_on_anew : (d c : Device) (stored name : List ℕ) (s : Start) → answer_of d (PowerOn stored name s) ≡ Taken
     → (step c (PowerOn stored name s)).gives ≡ (step d (PowerOn stored name s)).gives
 unfolding power_on
-power_on_anew d c stored name s h = by_form_lem (reading stored).form (is_name name) h
+power_on_anew d c stored name s h = by_reading (reading stored) (names.reading name) h
   where
-    by_form_lem : (f : ListForm) (t : Bool)
-        → (by_form f (if t then takes (started (reading stored).keys (name_of name) s) else answers d ListMalformed []) (answers d ListMalformed [])).gives.reply.answer ≡ Taken
-        → (by_form f (if t then takes (started (reading stored).keys (name_of name) s) else answers c ListMalformed []) (answers c ListMalformed [])).gives
-        ≡ (by_form f (if t then takes (started (reading stored).keys (name_of name) s) else answers d ListMalformed []) (answers d ListMalformed [])).gives
-    by_form_lem WellFormed true h = refl
-    by_form_lem WellFormed false h = absurd (unlike ListMalformed Taken tt h)
-    by_form_lem Malformed t h = absurd (unlike ListMalformed Taken tt h)
+    by_reading : (keys : Option AccountKeys) (n : Option Name) → (by_list d keys n s).gives.reply.answer ≡ Taken
+        → (by_list c keys n s).gives ≡ (by_list d keys n s).gives
+    by_reading (Some ks) (Some n) h = refl
+    by_reading (Some ks) None h = absurd (unlike ListMalformed Taken tt h)
+    by_reading None n h = absurd (unlike ListMalformed Taken tt h)
 
 -- the power-on's line, and the replay behind it, whatever there was before
 started_anew : (r : Replay) (d : Device) (stored name : List ℕ) (s : Start) → answer_of d (PowerOn stored name s) ≡ Taken

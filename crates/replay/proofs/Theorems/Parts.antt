@@ -22,8 +22,7 @@ use Rattle.replay.specs.declared.Line.{Line}
 use Rattle.replay.specs.declared.Replay.{Replay}
 use Rattle.replay.specs.declared.parts.Ended.{Ended}
 use Rattle.replay.specs.declared.parts.Fed.{Fed}
-use Rattle.replay.specs.declared.parts.Printed.{Printed}
-use Rattle.replay.specs.declared.parts.Printed.TheVariants.{Nothing, One}
+use Rattle.std.specs.Prelude.{Option, Some, None}
 use Rattle.replay.specs.declared.parts.Stream.{Stream}
 
 -- what a test of two numbers decides
@@ -85,8 +84,8 @@ stays_ready s r = (fed_ready, by-cut (is_cut s.unfinished))
         (record { device = shows_valid s.replay (event_in (part 2 (size_in l) l)) r.device; held = open_none }))
 
     by-cut : (b : Bool)
-        → Ready (Ended.next (if b then record { next = behind_event (shown s.replay Overflow); line = One (shown s.replay Overflow).line }
-        else record { next = s; line = Nothing }))
+        → Ready (Ended.next (if b then record { next = behind_event (shown s.replay Overflow); line = Some (shown s.replay Overflow).line }
+        else record { next = s; line = None }))
     by-cut true = record { device = shows_valid s.replay Overflow r.device; held = open_none }
     by-cut false = r
 
@@ -121,7 +120,7 @@ outcome r bs = outcome_of r (divide bs)
 
 -- a record in front
 outcome_after : (r : Replay) (b : List ℕ) (d : Division)
-    → outcome_of r (after b d) ≡ line_then (One (shown r (event_in b)).line) (behind_event (shown r (event_in b))) (outcome_of (shown r (event_in b)).next d)
+    → outcome_of r (after b d) ≡ line_then (Some (shown r (event_in b)).line) (behind_event (shown r (event_in b))) (outcome_of (shown r (event_in b)).next d)
 unfolding lines_from after_events
 outcome_after r b d = refl
 
@@ -164,9 +163,9 @@ all_fed (suc fuel) s bs at o h k =
     (λ c. ap (λ (f : Fed). line_then f.line f.next (fed_within fuel f.next bs f.at)) (fed_open s bs at refl c)
     ∙ sym (ap (outcome_of s.replay) (open_first l c) ∙ outcome_none s.replay l))
     (λ c. ap (λ (f : Fed). line_then f.line f.next (fed_within fuel f.next bs f.at)) (fed_ended s bs at refl c)
-    ∙ ap (line_then (One x.line) (behind_event x))
+    ∙ ap (line_then (Some x.line) (behind_event x))
     (all_fed fuel (behind_event x) bs to open_none (within-part s bs at o c h) (omega (arith, k, some-taken s bs at o, within-part s bs at o c h)))
-    ∙ ap (λ (m : List ℕ). line_then (One x.line) (behind_event x) (outcome x.next m)) (sym (rest-is s bs at o))
+    ∙ ap (λ (m : List ℕ). line_then (Some x.line) (behind_event x) (outcome x.next m)) (sym (rest-is s bs at o))
     ∙ sym (ap (outcome_of s.replay) (ended_first l c) ∙ outcome_after s.replay (part 2 n l) (divide (drop (2 + n) l))))
 
 pub part_fed : (s : Stream) (bs : List ℕ) → Open s.unfinished → fed_part s bs ≡ outcome s.replay (waiting s.unfinished ++ bs)
@@ -201,9 +200,9 @@ come_end s bs at r h =
     ∙ (λ i. record { lines = []; next = record { replay = s.replay; unfinished = sym (held_again_lem u r.held) i } })
 
 -- the line of a step, if there is one, in front of what is to come behind it
-abbrev pub line_and : Printed → Lines → Lines
-line_and Nothing later = later
-line_and (One l) later = record { lines = l ∷ later.lines; next = later.next }
+abbrev pub line_and : Option Line → Lines → Lines
+line_and None later = later
+line_and (Some l) later = record { lines = l ∷ later.lines; next = later.next }
 
 pub come_step : (s : Stream) (bs : List ℕ) (at : ℕ) → Ready s → at < length bs
     → to_come s bs at ≡ line_and (fed s bs at).line (to_come (fed s bs at).next bs (fed s bs at).at)
@@ -216,13 +215,13 @@ come_step s bs at r h =
     (λ k.
     let e = fed_open s bs at refl k in
     let last : length bs ≤ (fed s bs at).at = omega (arith, ap (λ (f : Fed). f.at) e, place) in
-    ap (λ (p : Printed). line_then p (fed s bs at).next (to_come (fed s bs at).next bs (fed s bs at).at)) (ap (λ (f : Fed). f.line) e)
+    ap (λ (p : Option Line). line_then p (fed s bs at).next (to_come (fed s bs at).next bs (fed s bs at).at)) (ap (λ (f : Fed). f.line) e)
     ∙ sym (come_end (fed s bs at).next bs (fed s bs at).at ready last)
-    ∙ ap (λ (p : Printed). line_and p (to_come (fed s bs at).next bs (fed s bs at).at)) (sym (ap (λ (f : Fed). f.line) e)))
+    ∙ ap (λ (p : Option Line). line_and p (to_come (fed s bs at).next bs (fed s bs at).at)) (sym (ap (λ (f : Fed). f.line) e)))
     (λ k.
     let e = fed_ended s bs at refl k in
-    ap (λ (p : Printed). line_then p (fed s bs at).next (to_come (fed s bs at).next bs (fed s bs at).at)) (ap (λ (f : Fed). f.line) e)
-    ∙ ap (λ (p : Printed). line_and p (to_come (fed s bs at).next bs (fed s bs at).at)) (sym (ap (λ (f : Fed). f.line) e)))
+    ap (λ (p : Option Line). line_then p (fed s bs at).next (to_come (fed s bs at).next bs (fed s bs at).at)) (ap (λ (f : Fed). f.line) e)
+    ∙ ap (λ (p : Option Line). line_and p (to_come (fed s bs at).next bs (fed s bs at).at)) (sym (ap (λ (f : Fed). f.line) e)))
 
 pub empty_part_keeps : EmptyPartKeeps
 empty_part_keeps s r = sym (come_all s []) ∙ come_end s [] 0 r (omega arith)
@@ -265,7 +264,7 @@ module _ (r : Replay) (rest more : List ℕ) (n : ℕ) (field : 2 ≤ length res
 
   -- it ends in the part, as one marker
   long-ended : n ≤ length more
-      → outcome r all ≡ line_then (One (shown r Overflow).line) (behind_event (shown r Overflow)) (outcome (shown r Overflow).next (drop n more))
+      → outcome r all ≡ line_then (Some (shown r Overflow).line) (behind_event (shown r Overflow)) (outcome (shown r Overflow).next (drop n more))
   long-ended h =
       let whole : 2 + size_in all ≤ length all = omega (arith, size_is, long-is, left, h) in
       let body : length (part 2 (size_in all) all) ≡ size_in all =
@@ -275,8 +274,8 @@ module _ (r : Replay) (rest more : List ℕ) (n : ℕ) (field : 2 ≤ length res
       let sum : 2 + size_in all ≡ length rest + n = omega (arith, size_is, left) in
       ap (outcome_of r) (ended_first all whole)
       ∙ outcome_after r (part 2 (size_in all) all) (divide (drop (2 + size_in all) all))
-      ∙ ap (λ (e : Event). line_then (One (shown r e).line) (behind_event (shown r e)) (outcome (shown r e).next (drop (2 + size_in all) all))) marker
-      ∙ ap (λ (l : List ℕ). line_then (One (shown r Overflow).line) (behind_event (shown r Overflow)) (outcome (shown r Overflow).next l))
+      ∙ ap (λ (e : Event). line_then (Some (shown r e).line) (behind_event (shown r e)) (outcome (shown r e).next (drop (2 + size_in all) all))) marker
+      ∙ ap (λ (l : List ℕ). line_then (Some (shown r Overflow).line) (behind_event (shown r Overflow)) (outcome (shown r Overflow).next l))
       (ap (λ k. drop k all) sum ∙ drop-append-add rest more n)
 
 pub held_stands : (r : Replay) (rest more : List ℕ) → length rest < 2 + size_in rest

@@ -1,25 +1,24 @@
 -- A record of less than 11 bytes is a marker, and any other is an account key write of what stands behind the clock.
+use lib.ListN.{length}
+use Rattle.recording.specs.Reading.{read_as}
+use Rattle.pairing.specs.Pairing.{AccountKeyWrite}
+use Rattle.provider.specs.Rules.Event.{OnSession}
 use mathlib.Core.List.{List}
 use mathlib.Core.Path.{ap}
 use Prim.Native.Nat.{ℕ}
-use lib.ListN.{length, drop}
 use borrow.Author.Tests.{le-leb, lt-leb}
-use Rattle.laws.proofs.Lists.{take_drop_rest}
-use Rattle.pairing.specs.Pairing.{AccountKeyWrite}
-use Rattle.provider.specs.Rules.Event.{OnSession}
-use Rattle.recording.specs.Reading.{read_as}
-use Rattle.replay_events.proofs.Laws.{refused_record, taken_on_link}
+use Rattle.replay_events.proofs.Laws.{refused, taken, given_on_link}
 use Rattle.replay_events.proofs.account_key_write.Goals as goal
 
-pub returns-then-record-lt11 : goal.returns-then-record-lt11
+pub returns-in_err-link : goal.returns-in_err-link
 unfolding read_as
-returns-then-record-lt11 c =
-    refused_record c.args.device _ (lt-leb 11 (length c.args.«record».now) c.if-record-lt11.true)
-    c.marker.ensures
+returns-in_err-link c =
+    refused c.args.device.now _ (lt-leb 11 (length c.args.«record».now) c.in_err-link.ensures) c.from_residual.ensures
 
 pub returns : goal.returns
 unfolding read_as
 returns c =
     let r = c.args.«record».now in
-    taken_on_link c.args.device r (le-leb 11 (length r) c.if-record-lt11.false) (OnSession (AccountKeyWrite (drop 11 r)))
-    c.clock-clock.ensures (ap (λ (b : List ℕ). OnSession (AccountKeyWrite b)) (take_drop_rest 11 r)) c.account_key_write.ensures
+    let ok = c.in_ok-link.ensures in
+    taken c.args.device.now _ (le-leb 11 (length r) ok.0)
+    (given_on_link c.args.device.now r ok.1 ok.2 _ (ap (λ (b : List ℕ). OnSession (AccountKeyWrite b)) ok.3) c.account_key_write.ensures)

@@ -1,22 +1,31 @@
--- A record of another size is a marker, and one of 18 bytes is a rotation to the address and salt that it has.
-use lib.ListN.{length}
-use borrow.Author.Tests.{eq-eqb, ne_eqb}
+-- A record of 18 bytes is a rotation to the address and salt that it has, and any other is a marker.
+use mathlib.Core.Path.{refl}
+use native.Mathlib.Omega.{arith}
+use Rattle.recording.specs.Reading.{read_as}
 use Rattle.provider.specs.Rules.Event.{AddressRotated}
-use Rattle.recording.specs.Reading.{read_as, part}
-use Rattle.replay_events.proofs.Laws.{refused_record, taken_on_device}
+use mathlib.Core.Path.{◌∙◌}
+use Rattle.replay_events.proofs.Laws.{field_at, too_short, inexact, exact, refused, taken, given_on_device}
 use Rattle.replay_events.proofs.address_rotated.Goals as goal
 
-pub returns-then-record-ne18 : goal.returns-then-record-ne18
+pub returns-in_err-clock : goal.returns-in_err-clock
 unfolding read_as
-returns-then-record-ne18 c =
-    refused_record c.args.device _ (ne_eqb (length c.args.«record».now) 18 c.if-record-ne18.true)
-    c.marker.ensures
+returns-in_err-clock c =
+    let r = c.args.«record».now in
+    refused c.args.device.now _ (too_short r 10 18 c.in_err-clock.ensures (omega arith)) c.from_residual.ensures
+
+pub returns-then-fields-ne8 : goal.returns-then-fields-ne8
+unfolding read_as
+returns-then-fields-ne8 c =
+    let r = c.args.«record».now in
+    let ok = c.in_ok-clock.ensures in
+    refused c.args.device.now _ (inexact r 10 8 ok.0 ok.2 c.if-fields-ne8.true) refl
 
 pub returns : goal.returns
 unfolding read_as
 returns c =
     let r = c.args.«record».now in
-    taken_on_device c.args.device r (eq-eqb (length r) 18 c.if-record-ne18.false)
-    (AddressRotated (record { bytes = part 10 6 r }) (part 16 2 r)) c.clock-clock.ensures
-    (λ i. AddressRotated (record { bytes = c.address-ble.ensures i }) (c.two-salt.ensures i))
-    c.address_rotated.ensures
+    let ok = c.in_ok-clock.ensures in
+    let ble = c.part.ensures ∙ field_at r 10 ok.2 0 6 10 refl in
+    let salt = c.part-2.ensures ∙ field_at r 10 ok.2 6 2 16 refl in
+    taken c.args.device.now _ (exact r 10 8 ok.0 ok.2 c.if-fields-ne8.false)
+    (given_on_device c.args.device.now r ok.1 _ (λ i. AddressRotated (record { bytes = ble i }) (salt i)) c.address_rotated.ensures)

@@ -1,21 +1,27 @@
--- A record of another size is a marker, and one of 10 bytes is a factory reset at the clock that it has.
+-- A record of 10 bytes is a factory reset at the clock that it has, and any other a marker.
 use mathlib.Core.Path.{refl}
-use lib.ListN.{length}
-use borrow.Author.Tests.{eq-eqb, ne_eqb}
-use Rattle.provider.specs.Rules.Event.{FactoryReset}
+use native.Mathlib.Omega.{arith}
 use Rattle.recording.specs.Reading.{read_as}
-use Rattle.replay_events.proofs.Laws.{refused_record, taken_on_device}
+use Rattle.provider.specs.Rules.Event.{FactoryReset}
+use Rattle.replay_events.proofs.Laws.{too_short, inexact, exact, refused, taken, given_on_device}
 use Rattle.replay_events.proofs.factory_reset.Goals as goal
 
-pub returns-then-record-ne10 : goal.returns-then-record-ne10
+pub returns-in_err-clock : goal.returns-in_err-clock
 unfolding read_as
-returns-then-record-ne10 c =
-    refused_record c.args.device _ (ne_eqb (length c.args.«record».now) 10 c.if-record-ne10.true)
-    c.marker.ensures
+returns-in_err-clock c =
+    let r = c.args.«record».now in
+    refused c.args.device.now _ (too_short r 10 10 c.in_err-clock.ensures (omega arith)) c.from_residual.ensures
+
+pub returns-in_default : goal.returns-in_default
+unfolding read_as
+returns-in_default c =
+    let r = c.args.«record».now in
+    refused c.args.device.now _ (inexact r 10 0 c.in_ok-clock.ensures.0 c.in_ok-clock.ensures.2 (λ p. omega (arith, p, c.in_default.len_at_least))) refl
 
 pub returns : goal.returns
 unfolding read_as
 returns c =
     let r = c.args.«record».now in
-    taken_on_device c.args.device r (eq-eqb (length r) 10 c.if-record-ne10.false) FactoryReset c.clock-clock.ensures refl
-    c.factory_reset.ensures
+    let ok = c.in_ok-clock.ensures in
+    taken c.args.device.now _ (exact r 10 0 c.in_ok-clock.ensures.0 c.in_ok-clock.ensures.2 (omega (arith, c.in-empty.len_below)))
+    (given_on_device c.args.device.now r ok.1 FactoryReset refl c.factory_reset.ensures)

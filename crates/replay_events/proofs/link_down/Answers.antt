@@ -1,21 +1,27 @@
--- A record of another size is a marker, and one of 11 bytes is a link down with the link and the clock that it has.
+-- A record of 11 bytes is a link down with the link and the clock that it has, and any other a marker.
 use mathlib.Core.Path.{refl}
-use lib.ListN.{length}
-use borrow.Author.Tests.{eq-eqb, ne_eqb}
-use Rattle.provider.specs.Rules.Event.{LinkDown}
+use native.Mathlib.Omega.{arith}
 use Rattle.recording.specs.Reading.{read_as}
-use Rattle.replay_events.proofs.Laws.{refused_record, taken_on_link}
+use Rattle.provider.specs.Rules.Event.{LinkDown}
+use Rattle.replay_events.proofs.Laws.{too_short, inexact, exact, refused, taken, given_on_link}
 use Rattle.replay_events.proofs.link_down.Goals as goal
 
-pub returns-then-record-ne11 : goal.returns-then-record-ne11
+pub returns-in_err-link : goal.returns-in_err-link
 unfolding read_as
-returns-then-record-ne11 c =
-    refused_record c.args.device _ (ne_eqb (length c.args.«record».now) 11 c.if-record-ne11.true)
-    c.marker.ensures
+returns-in_err-link c =
+    let r = c.args.«record».now in
+    refused c.args.device.now _ (too_short r 11 11 c.in_err-link.ensures (omega arith)) c.from_residual.ensures
+
+pub returns-in_default : goal.returns-in_default
+unfolding read_as
+returns-in_default c =
+    let r = c.args.«record».now in
+    refused c.args.device.now _ (inexact r 11 0 c.in_ok-link.ensures.0 c.in_ok-link.ensures.3 (λ p. omega (arith, p, c.in_default.len_at_least))) refl
 
 pub returns : goal.returns
 unfolding read_as
 returns c =
     let r = c.args.«record».now in
-    taken_on_link c.args.device r (eq-eqb (length r) 11 c.if-record-ne11.false) LinkDown c.clock-clock.ensures refl
-    c.link_down.ensures
+    let ok = c.in_ok-link.ensures in
+    taken c.args.device.now _ (exact r 11 0 c.in_ok-link.ensures.0 c.in_ok-link.ensures.3 (omega (arith, c.in-empty.len_below)))
+    (given_on_link c.args.device.now r ok.1 ok.2 LinkDown refl c.link_down.ensures)

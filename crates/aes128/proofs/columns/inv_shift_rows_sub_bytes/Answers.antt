@@ -1,14 +1,11 @@
--- The table has INVSBOX at each byte.
+-- INVSBOX at each byte.
 -- Assumes nothing.
 use Rattle.aes128.specs.Rounds.{inv_sub_bytes}
 use Rattle.aes128.specs.SBox.{inv_s_box}
-use Rattle.aes128.specs.Tables.{inv_s_box_table}
 use Rattle.aes128.proofs.Lookups.{shifted_back_by}
-use Rattle.aes128.proofs.SBox.{follow_the_rule}
 use Rattle.aes128.proofs.columns.inv_shift_rows_sub_bytes.Goals as goal
 
 pub returns : goal.returns
 unfolding inv_sub_bytes
 returns c =
-    shifted_back_by inv_s_box_table inv_s_box follow_the_rule.second c.args.t.now c.requires c.args.s _
-    c.substitute.ensures c.substitute-2.ensures c.substitute-3.ensures c.substitute-4.ensures
+    shifted_back_by inv_s_box c.args.s _ c.substitute.ensures c.substitute-2.ensures c.substitute-3.ensures c.substitute-4.ensures

@@ -1,14 +1,11 @@
--- The table has SBOX at each byte.
+-- SBOX at each byte.
 -- Assumes nothing.
 use Rattle.aes128.specs.Rounds.{sub_bytes}
 use Rattle.aes128.specs.SBox.{s_box}
-use Rattle.aes128.specs.Tables.{s_box_table}
 use Rattle.aes128.proofs.Lookups.{shifted_by}
-use Rattle.aes128.proofs.SBox.{follow_the_rule}
 use Rattle.aes128.proofs.columns.sub_bytes_shift_rows.Goals as goal
 
 pub returns : goal.returns
 unfolding sub_bytes
 returns c =
-    shifted_by s_box_table s_box follow_the_rule.first c.args.t.now c.requires c.args.s _
-    c.substitute.ensures c.substitute-2.ensures c.substitute-3.ensures c.substitute-4.ensures
+    shifted_by s_box c.args.s _ c.substitute.ensures c.substitute-2.ensures c.substitute-3.ensures c.substitute-4.ensures

@@ -15,7 +15,7 @@ pub loop-i-preserved : goal.loop-i-preserved
 loop-i-preserved c =
     let inv = c.loop-i.invariant in (
       expanded_more (block_of c.to_columns-keys.result) c.loop-i.i c.loop-i.keys
-          c.next_round_key.result c.loop-i.rcon inv.0 (omega arith) inv.1 c.next_round_key.ensures,
+          _ c.loop-i.rcon inv.0 (omega arith) inv.1 c.next_round_key.ensures,
       rcon_more c.loop-i.i c.loop-i.rcon c.double_word-rcon.result c.double_word-rcon.ensures inv.1,
     )
 

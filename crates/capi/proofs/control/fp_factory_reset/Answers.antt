@@ -1,25 +1,8 @@
--- The step on the device that was read, or the bytes come back.
-use borrow.Author.Tests.{not-true, not-false}
-use Rattle.capi.proofs.Laws.{next_valid, served_known, served_unknown, read_valid}
+-- The next device is valid.
+use Rattle.capi.proofs.Laws.{next_valid}
 use Rattle.provider.specs.Rules.Event.{OnDevice, FactoryReset}
 use Rattle.capi.proofs.control.fp_factory_reset.Goals as goal
 
-pub returns-then-not-from : goal.returns-then-not-from
-returns-then-not-from c =
-    served_unknown c.args.device c.unpack-from.ensures (OnDevice c.args.clock FactoryReset)
-    (not-true c.unpack-from.result.known c.if-not-from.true) c.returned.ensures
-
-pub factory_reset-requires : goal.factory_reset-requires
-factory_reset-requires c =
-    read_valid c.args.device c.unpack-from.ensures
-
 pub pack_outcome-requires : goal.pack_outcome-requires
 pack_outcome-requires c =
-    next_valid c.args.device c.unpack-from.ensures (OnDevice c.args.clock FactoryReset)
-    c.factory_reset.ensures
-
-pub returns : goal.returns
-returns c =
-    served_known c.args.device c.unpack-from.ensures (OnDevice c.args.clock FactoryReset)
-    (not-false c.unpack-from.result.known c.if-not-from.false) c.factory_reset.ensures
-    c.pack_outcome.ensures
+    next_valid c.in-Some.d (OnDevice c.args.clock FactoryReset) _ c.in-Some.ensures.valid c.factory_reset.ensures

@@ -1,29 +1,9 @@
--- The step on the device that was read, or the bytes come back.
-use borrow.Author.Tests.{not-true, not-false}
-use Rattle.capi.proofs.Laws.{next_valid, served_known, served_unknown, read_valid}
+-- The next device is valid.
+use Rattle.capi.proofs.Laws.{next_valid}
 use Rattle.provider.specs.Rules.Event.{OnLink, OnSession}
 use Rattle.pairing.specs.Pairing.{NameWrite}
 use Rattle.capi.proofs.pairing_events.fp_name_write.Goals as goal
 
-pub returns-then-not-from : goal.returns-then-not-from
-returns-then-not-from c =
-    served_unknown c.args.device c.unpack-from.ensures
-    (OnLink c.args.link c.args.clock (OnSession (NameWrite c.args.packet.now)))
-    (not-true c.unpack-from.result.known c.if-not-from.true) c.returned.ensures
-
-pub name_write-requires : goal.name_write-requires
-name_write-requires c =
-    read_valid c.args.device c.unpack-from.ensures
-
 pub pack_outcome-requires : goal.pack_outcome-requires
 pack_outcome-requires c =
-    next_valid c.args.device c.unpack-from.ensures
-    (OnLink c.args.link c.args.clock (OnSession (NameWrite c.args.packet.now)))
-    c.name_write.ensures
-
-pub returns : goal.returns
-returns c =
-    served_known c.args.device c.unpack-from.ensures
-    (OnLink c.args.link c.args.clock (OnSession (NameWrite c.args.packet.now)))
-    (not-false c.unpack-from.result.known c.if-not-from.false) c.name_write.ensures
-    c.pack_outcome.ensures
+    next_valid c.in-Some.d (OnLink c.args.link c.args.clock (OnSession (NameWrite c.args.packet.now))) _ c.in-Some.ensures.valid c.name_write.ensures

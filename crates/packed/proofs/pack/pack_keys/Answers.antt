@@ -4,4 +4,4 @@ use Rattle.packed.proofs.pack.pack_keys.Goals as goal
 
 pub returns : goal.returns
 returns c =
-    list_packed c.args.keys c.requires c.write-report.ensures.value c.write-report.ensures.out_after
+    list_packed c.args.keys c.requires c.write.ensures.value c.unwrap_or-length.ensures c.write.ensures.out_after

@@ -2,7 +2,7 @@
 use mathlib.Core.Path.{◌∙◌}
 use native.Mathlib.Omega.{arith}
 use Rattle.reassembly.proofs.Cases.{nothing_read, skips_on}
-use Rattle.reassembly.proofs.Held.{hold_filling, hold_open, skip_open}
+use Rattle.reassembly.proofs.Held.{hold_filling, skip_open}
 use Rattle.reassembly.proofs.Unfinished.read_on.Goals as goal
 
 pub returns-then-part-at : goal.returns-then-part-at
@@ -14,10 +14,6 @@ returns-then-self-ne0 c =
     let a = c.args in
     let skips = skip_open c.requires.0 c.if-self-ne0.true in
     c.skip_on.ensures ∙ skips_on a.self a.part.now a.at skips.some (omega (arith, c.if-part-at.false))
-
-pub with_length-requires : goal.with_length-requires
-with_length-requires c =
-    (hold_open c.requires.0 c.if-self-ne0.false, c.if-self-eq1.true, c.if-part-at.false)
 
 pub fill-requires : goal.fill-requires
 fill-requires c =

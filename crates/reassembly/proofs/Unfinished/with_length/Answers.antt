@@ -10,6 +10,7 @@ use Rattle.reassembly.specs.declared.Unfinished.{Unfinished}
 use Rattle.reassembly.proofs.Unfinished.with_length.Goals as goal
 
 -- the slice is one byte long
+
 begun : (u : Unfinished) (bs : List ℕ) (at : ℕ) {v : Unfinished} → v ≡ longer u (take (at + 1 - at) (drop at bs))
     → v ≡ longer u (take 1 (drop at bs))
 begun u bs at e =

@@ -1,13 +1,16 @@
 -- Link and clock are the only fields.
-use mathlib.Core.List.{[]}
-use mathlib.Core.Path.{refl}
-use Rattle.provider.specs.Rules.Event.{LinkUp}
-use Rattle.recording.proofs.Laws.{recorded_on_link}
+use mathlib.Core.List.{append-nil}
+use native.Mathlib.Nat.{div-one}
+use Rattle.provider.specs.Rules.Event.{OnLink, LinkUp}
+use Rattle.recording.specs.Layout.{body}
+use Rattle.recording.proofs.Laws.{recorded}
 use Rattle.recorder.proofs.link_records.link_up.Goals as goal
 
 pub returns : goal.returns
+unfolding body
 returns c =
     let a = c.args in
-    let both = recorded_on_link [] [] [] a.out.now a.link.0 a.clock.0
-    LinkUp c.head-head.ensures refl (c.write.ensures.value, c.write.ensures.out_after) in
+    let both = recorded (OnLink a.link.0 a.clock.0 LinkUp) a.out.now
+    (simp (c.to_be_bytes.ensures, div-one, append-nil))
+    (c.write.ensures.value, c.write.ensures.out_after) in
     record { value = both.0; out_after = both.1 }

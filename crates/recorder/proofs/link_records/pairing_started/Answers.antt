@@ -1,14 +1,17 @@
 -- The capability follows link and clock.
-use mathlib.Core.List.{[], ◌∷◌}
-use mathlib.Core.Path.{refl}
+use mathlib.Core.List.{append-nil}
+use native.Mathlib.Nat.{div-one}
 use Rattle.pairing.specs.Pairing.{PairingStarted}
-use Rattle.provider.specs.Rules.Event.{OnSession}
-use Rattle.recording.proofs.Laws.{recorded_on_link}
+use Rattle.provider.specs.Rules.Event.{OnLink, OnSession}
+use Rattle.recording.specs.Layout.{body}
+use Rattle.recording.proofs.Laws.{recorded}
 use Rattle.recorder.proofs.link_records.pairing_started.Goals as goal
 
 pub returns : goal.returns
+unfolding body
 returns c =
     let a = c.args in
-    let both = recorded_on_link [] (a.capability ∷ []) [] a.out.now a.link.0 a.clock.0
-    (OnSession (PairingStarted a.capability)) c.head-head.ensures refl (c.write.ensures.value, c.write.ensures.out_after) in
+    let both = recorded (OnLink a.link.0 a.clock.0 (OnSession (PairingStarted a.capability))) a.out.now
+    (simp (c.to_be_bytes.ensures, div-one, append-nil))
+    (c.write.ensures.value, c.write.ensures.out_after) in
     record { value = both.0; out_after = both.1 }

@@ -1,24 +1,20 @@
--- Front and parts are copied one behind the other, and what follows them stays.
-use mathlib.Core.List.{List, ◌++◌}
-use mathlib.Core.Path.{◌≡◌, refl, ap₂, ◌∙◌}
-use Prim.Native.Nat.{ℕ, ◌+◌}
+-- Each field is copied behind the front and the fields before it, and what follows it stays.
+use mathlib.Core.List.{[], ◌++◌}
 use native.Mathlib.Omega.{arith}
-use lib.ListN.{length, drop}
 use borrow.Author.Rules.{rules}
-use Rattle.recording.proofs.Laws.{five_copied}
+use mathlib.Core.Path.{refl}
+use Rattle.laws.specs.BigEndian.{bytes}
+use Rattle.recording.specs.Layout.{body_of}
+use Rattle.recording.proofs.Laws.{within_all, field_laid}
 use Rattle.recording.proofs.frame.place.Goals as goal
 
-pub returns : goal.returns
-returns c =
-    let a = c.args in
-    let after-head : ℕ = 4 + length a.head.now in
-    let after_first : ℕ = after-head + length a.first.now in
-    let after_tail : ℕ = after_first + length a.tail.now in
-    let end : after_tail + length a.last.now ≡ 2 + a.size = omega (arith, c.requires.size_value) in
-    let laid : List ℕ → ℕ → List ℕ =
-    λ f n. ((((f ++ a.head.now) ++ a.first.now) ++ a.tail.now) ++ a.last.now) ++ drop n a.out.now
-    in
-    five_copied a.out.now c.front-front.result a.head.now a.first.now a.tail.now 4 after-head after_first
-    (search rules) refl refl c.copy.ensures c.copy-2.ensures c.copy-3.ensures
-    c.copy-4.ensures a.last.now after_tail refl c.copy-5.ensures
-    ∙ ap₂ laid c.front-front.ensures end
+pub slice_bounds-copy_from_slice-end-in-loop-field : goal.slice_bounds-copy_from_slice-end-in-loop-field
+slice_bounds-copy_from_slice-end-in-loop-field c =
+    let bound = within_all c.args.fields.now c.loop-field.field-index c.loop-field-test.true in
+    search rules
+
+pub loop-field-preserved : goal.loop-field-preserved
+loop-field-preserved c =
+    let turn = c.loop-field in
+    field_laid c.args.fields.now turn.field-index c.loop-field-test.true (bytes 2 c.args.size ++ body_of c.args.kind []) c.args.out.now
+    turn.at _ _ turn.invariant.0 turn.invariant.1 refl (omega arith) c.copy_from_slice-in-loop-field.ensures.after

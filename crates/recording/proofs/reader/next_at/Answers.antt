@@ -1,22 +1,23 @@
--- Each test asks how much of the recording is left: whether anything, then the length field, then as much as that field says.
-use mathlib.Core.Path.{sym}
-use native.Mathlib.Omega.{arith}
-use Rattle.recording.proofs.NextAt.{next_end, next_cut_length, next_cut, next_record}
+-- Each arm says how much of the recording is left: nothing, one byte of a length field, the field and what is behind it.
+use Rattle.recording.proofs.NextAt.{next_none, next_end, next_cut_length, next_cut, next_record}
 use Rattle.recording.proofs.reader.next_at.Goals as goal
 
-pub returns-then-recording-at : goal.returns-then-recording-at
-returns-then-recording-at c =
-    let a = c.args in sym (next_end a.recording.now a.at c.if-recording-at.true)
+pub returns-in_default : goal.returns-in_default
+returns-in_default c = next_none c.args.recording.now c.args.at c.in_default.ensures.lookup.0
 
-pub returns-then-left-lt2 : goal.returns-then-left-lt2
-returns-then-left-lt2 c =
-    let a = c.args in
-    sym (next_cut_length a.recording.now a.at c.if-recording-at.false (omega arith))
+pub returns-in-empty : goal.returns-in-empty
+returns-in-empty c = next_end c.args.recording.now c.args.at c.in-Some.ensures.lookup.0 c.in-empty.len_below
 
-pub returns-then-left-length : goal.returns-then-left-length
-returns-then-left-length c =
-    let a = c.args in sym (next_cut a.recording.now a.at c.size-length.ensures.0 (omega arith) (omega arith))
+pub returns-in-len1 : goal.returns-in-len1
+returns-in-len1 c =
+    next_cut_length c.args.recording.now c.args.at c.in-Some.ensures.lookup.0 c.in-len1.len_at_least c.in-len1.len_below
 
-pub returns : goal.returns
-returns c =
-    let a = c.args in sym (next_record a.recording.now a.at c.size-length.ensures.0 (omega arith))
+pub returns-then-rest-length : goal.returns-then-rest-length
+returns-then-rest-length c =
+    next_cut c.args.recording.now c.args.at c.in-Some.ensures.lookup.0 c.in-len2-up.len_at_least c.size-length.ensures.0
+    c.if-rest-length.true
+
+pub returns-else-rest-length : goal.returns-else-rest-length
+returns-else-rest-length c =
+    next_record c.args.recording.now c.args.at c.in-Some.ensures.lookup.0 c.in-len2-up.len_at_least c.size-length.ensures.0
+    c.if-rest-length.false

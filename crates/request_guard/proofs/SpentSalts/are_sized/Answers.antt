@@ -1,25 +1,18 @@
--- Salts passed have 2 or 8 bytes: the rest of those in use decides.
-use mathlib.Core.Path.{refl, sym, ◌∙◌}
+-- Whether each salt in use has 2 or 8 bytes; cleaning leaves how many a salt has.
+use mathlib.Core.Path.{◌≡◌, ◌∙◌}
+use native.Mathlib.Omega.{arith}
+use lib.ListN.{length}
 use borrow.Author.Rules.{rules}
-use Rattle.request_guard.proofs.Laws.{sized_step, sized_end}
+use borrow.Author.Tests.{tests}
+use Rattle.std.proofs.lemmas.Iterator.{YieldsList-from_slice}
+use Rattle.std.proofs.lemmas.Iterator.Search.{all_from_yields_List}
+use Rattle.request_guard.specs.Guard.{remembered, salt_limit, sized_salt}
+use Rattle.request_guard.proofs.Laws.{sized_all}
 use Rattle.request_guard.proofs.SpentSalts.are_sized.Goals as goal
-
-pub loop-i-init : goal.loop-i-init
-loop-i-init c = (search rules, refl, refl)
-
-pub returns-then-not-is_sized : goal.returns-then-not-is_sized
-returns-then-not-is_sized c =
-    sym (sym c.loop-i.invariant.2 ∙ sized_step c.args.self c.loop-i.i c.loop-i-test.true ∙ rw
-    (sym c.is_sized.ensures ∙ c.if-not-is_sized.true))
-
-pub loop-i-preserved : goal.loop-i-preserved
-loop-i-preserved c = (
-  search rules,
-  refl,
-  sym (sized_step c.args.self c.loop-i.i c.loop-i-test.true ∙ rw
-      (sym c.is_sized.ensures ∙ c.if-not-is_sized.false)) ∙ c.loop-i.invariant.2,
-)
 
 pub returns : goal.returns
 returns c =
-    sym (sym c.loop-i.invariant.2 ∙ sized_end c.args.self c.loop-i.i c.loop-i-test.false)
+    let ss = c.args.self in
+    let long : length ss.salts ≡ salt_limit = search rules in
+    all_from_yields_List sized_salt _ _ _ c.all.ensures.ran (YieldsList-from_slice (remembered ss) cc)
+    (λ x b q k. search (rules, tests)) ∙ sized_all ss.count ss.salts (omega (arith, c.requires))

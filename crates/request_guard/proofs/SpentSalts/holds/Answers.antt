@@ -1,34 +1,16 @@
--- Salts passed are other salts: the rest of the list decides.
-use mathlib.Core.Path.{◌≡◌, refl, sym, ◌∙◌}
-use native.Mathlib.Omega.{arith}
-use lib.ListN.{length}
+-- Whether one of the remembered salts is the same.
+use mathlib.Core.Path.{◌∙◌}
 use borrow.Author.Rules.{rules}
-use Rattle.request_guard.specs.Guard.{salt_limit}
-use Rattle.request_guard.proofs.Laws.{length_salts, spent_step, spent_end}
+use borrow.Author.Tests.{tests}
+use Rattle.std.proofs.lemmas.Iterator.{YieldsList-from_slice}
+use Rattle.std.proofs.lemmas.Iterator.Search.{any_from_yields_List}
+use Rattle.request_guard.specs.Guard.{remembered, same_salt}
+use Rattle.request_guard.proofs.Laws.{spent_any}
 use Rattle.request_guard.proofs.SpentSalts.holds.Goals as goal
-
-pub loop-i-init : goal.loop-i-init
-loop-i-init c = (search rules, refl, refl)
-
-pub returns-then-same_salt : goal.returns-then-same_salt
-returns-then-same_salt c =
-    let ss = c.args.self in
-    let long : length ss.salts ≡ salt_limit = length_salts ss c.requires in
-    sym (sym c.loop-i.invariant.2 ∙ spent_step ss.salts ss.count c.loop-i.i c.args.salt
-    c.loop-i-test.true (omega (arith, c.requires.few)) ∙ rw (sym c.same_salt.ensures ∙ c.if-same_salt.true))
-
-pub loop-i-preserved : goal.loop-i-preserved
-loop-i-preserved c =
-    let ss = c.args.self in
-    let long : length ss.salts ≡ salt_limit = length_salts ss c.requires in (
-      search rules,
-      refl,
-      sym (spent_step ss.salts ss.count c.loop-i.i c.args.salt c.loop-i-test.true
-          (omega (arith, c.requires.few)) ∙ rw (sym c.same_salt.ensures ∙ c.if-same_salt.false)) ∙ c.loop-i.invariant.2,
-    )
 
 pub returns : goal.returns
 returns c =
-    let ss = c.args.self in
-    sym (sym c.loop-i.invariant.2 ∙ spent_end ss.salts ss.count c.loop-i.i c.args.salt
-    c.loop-i-test.false)
+    let a = c.args in
+    any_from_yields_List (λ x. same_salt x a.salt) _ _ _ c.any.ensures.ran
+    (YieldsList-from_slice (remembered a.self) cc) (λ x b q k. search (rules, tests))
+    ∙ spent_any (remembered a.self) a.salt

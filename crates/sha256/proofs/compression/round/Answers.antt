@@ -4,12 +4,4 @@ use Rattle.sha256.proofs.compression.round.Goals as goal
 
 pub returns : goal.returns
 unfolding round T₂
-returns c =
-    rw (
-      c.add-2.ensures,
-      c.add.ensures,
-      c.add-t2.ensures,
-      c.maj.ensures,
-      c.big_sigma0.ensures,
-      c.temp1-t1.ensures,
-    )
+returns c = rw (c.maj.ensures, c.big_sigma0.ensures, c.temp1-t1.ensures)

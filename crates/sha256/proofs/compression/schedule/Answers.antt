@@ -1,5 +1,5 @@
 -- After i turns the first 16 + i words of the schedule stand in the array, and zeros behind them.
-use Rattle.std.proofs.Common.{◌≡◌, ◌∙◌, arith, rules}
+use Rattle.std.proofs.Common.{◌≡◌, ◌∙◌, arith}
 use Rattle.laws.proofs.Loops.{at_limit}
 use Rattle.laws.specs.Lists.{padded}
 use Rattle.sha256.specs.Compression as spec
@@ -8,24 +8,15 @@ use Rattle.sha256.proofs.compression.schedule.Goals as goal
 
 pub loop-i-init : goal.loop-i-init
 unfolding spec.schedule
-loop-i-init c = (search rules, c.message_words-w.ensures)
+loop-i-init c = c.message_words-w.ensures
 
 pub loop-i-preserved : goal.loop-i-preserved
 unfolding spec.next_word
-loop-i-preserved c = (
-  search rules,
-  schedule_more c.args.block.now c.loop-i.i (omega arith) c.loop-i.invariant.1
-      (rw (
-        c.add-in-loop-i-2.ensures,
-        c.add-in-loop-i.ensures,
-        c.small_sigma0.ensures,
-        c.add.ensures,
-        c.small_sigma1.ensures,
-      )),
-)
+loop-i-preserved c =
+    schedule_more c.args.block.now c.loop-i.i (omega arith) c.loop-i.invariant
+    (rw (c.small_sigma0.ensures, c.small_sigma1.ensures))
 
 pub returns : goal.returns
 returns c =
-    let block = c.args.block.now in
-    at_limit (λ k. c.loop-i.w ≡ padded 64 0 (spec.schedule block k)) c.loop-i.invariant.0 c.loop-i-test.false
-    c.loop-i.invariant.1 ∙ schedule_full block
+    at_limit (λ k. c.loop-i.w ≡ padded 64 0 (spec.schedule c.args.block.now k)) (omega arith) (omega arith) c.loop-i.invariant
+    ∙ schedule_full c.args.block.now

@@ -4,12 +4,4 @@ use Rattle.sha256.proofs.compression.temp1.Goals as goal
 
 pub returns : goal.returns
 unfolding T₁
-returns c =
-    rw (
-      c.add-4.ensures,
-      c.add-3.ensures,
-      c.add-2.ensures,
-      c.ch.ensures,
-      c.add.ensures,
-      c.big_sigma1.ensures,
-    )
+returns c = rw (c.ch.ensures, c.big_sigma1.ensures)

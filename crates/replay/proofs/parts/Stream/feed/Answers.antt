@@ -4,13 +4,6 @@ use Rattle.recording.proofs.Walking.{walked}
 use Rattle.replay.proofs.Feeding.{rest_unended, record_fed, cut_fed, end_fed}
 use Rattle.replay.proofs.parts.Stream.feed.Goals as goal
 
-pub is_cut-requires : goal.is_cut-requires
-is_cut-requires c = c.requires.held
-
-pub read_on-requires : goal.read_on-requires
-read_on-requires c =
-    (c.requires, sym c.is_cut.ensures ∙ c.if-is_cut.true)
-
 pub slice_bounds-shown-count : goal.slice_bounds-shown-count
 slice_bounds-shown-count c =
     let a = c.args in (walked a.part.now a.at (sym c.in-Record.is ∙ c.next_at.ensures)).1
@@ -22,10 +15,6 @@ slice_bounds-shown-start c =
 pub slice_bounds-shown-end : goal.slice_bounds-shown-end
 slice_bounds-shown-end c =
     let a = c.args in (walked a.part.now a.at (sym c.in-Record.is ∙ c.next_at.ensures)).2
-
-pub shown-requires : goal.shown-requires
-shown-requires c =
-    c.requires.device
 
 pub begin-requires : goal.begin-requires
 begin-requires c =

@@ -4,10 +4,6 @@ use Rattle.reassembly.specs.declared.Found.TheVariants as found
 use Rattle.replay.proofs.Feeding.{found_told, held_within}
 use Rattle.replay.proofs.parts.Stream.read_on.Goals as goal
 
-pub read_on-taken-requires : goal.read_on-taken-requires
-read_on-taken-requires c =
-    (c.requires.0.held, c.requires.1)
-
 pub slice_bounds-shown-count : goal.slice_bounds-shown-count
 slice_bounds-shown-count c =
     let a = c.args in
@@ -24,14 +20,6 @@ slice_bounds-shown-end c =
     let a = c.args in
     let found = c.in-Held.is in
     omega (arith, h, (held_within a.self.unfinished a.part.now a.at c.read_on-taken.result _ c.read_on-taken.ensures found).1)
-
-pub shown-requires : goal.shown-requires
-shown-requires c =
-    c.requires.0.device
-
-pub skipped-requires : goal.skipped-requires
-skipped-requires c =
-    c.requires.0.device
 
 pub returns-in-Nothing : goal.returns-in-Nothing
 returns-in-Nothing c =

@@ -1,8 +1,0 @@
--- The part that is written has as many bytes as are filled.
-use mathlib.Core.Path.{sym}
-use lib.Seq.{length-take-le}
-use Rattle.fp_replay.proofs.output.flush.Goals as goal
-
-pub slice_bounds-write_all-end : goal.slice_bounds-write_all-end
-slice_bounds-write_all-end c =
-    sym (length-take-le c.args.filled c.args.out.now c.requires)

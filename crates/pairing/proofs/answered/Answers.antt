@@ -1,5 +1,0 @@
--- Nothing is stored, and no name is taken.
-use Rattle.pairing.proofs.answered.Goals as goal
-
-pub returns : goal.returns
-returns c = rw c.none.ensures

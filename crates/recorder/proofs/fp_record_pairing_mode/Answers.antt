@@ -1,8 +1,0 @@
--- The writer's report goes over as it is.
-use Rattle.recorder.proofs.Laws.{told}
-use Rattle.recorder.proofs.fp_record_pairing_mode.Goals as goal
-
-pub returns : goal.returns
-returns c =
-    let both = told (c.pairing_mode.ensures.value, c.pairing_mode.ensures.out_after) c.pack_report.ensures in
-    record { value = both.0; out_after = both.1 }

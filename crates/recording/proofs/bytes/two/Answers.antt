@@ -1,6 +1,0 @@
--- Each byte is the definition's; the last has nothing to shift.
-use native.Mathlib.Nat.{div-one}
-use Rattle.recording.proofs.bytes.two.Goals as goal
-
-pub returns : goal.returns
-returns c = rw div-one

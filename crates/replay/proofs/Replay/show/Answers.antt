@@ -1,8 +1,0 @@
--- The record's event is played, and its line is shown.
-use Rattle.std.proofs.Common.{ap, ◌∙◌}
-use Rattle.replay.specs.Replay.{shown_of}
-use Rattle.replay.proofs.Replay.show.Goals as goal
-
-pub returns : goal.returns
-returns c =
-    c.shown.ensures ∙ ap (shown_of c.args.self) c.play.ensures

@@ -1,8 +1,0 @@
--- The array is copied over whole by the record's part.
-use mathlib.Core.Path.{refl}
-use Rattle.replay_events.proofs.Laws.{part_copied}
-use Rattle.replay_events.proofs.fields.two.Goals as goal
-
-pub returns : goal.returns
-returns c =
-    part_copied c.args.«record».now c.args.at 2 _ refl c.requires c.copy.ensures
