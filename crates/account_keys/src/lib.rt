@@ -165,13 +165,11 @@ fn among(keys: &[AccountKey], key: AccountKey) -> bool
 pub fn read(src: &[u8]) -> Option<AccountKeys>
     ensures { result ≡ reading src.now }
 {
-    if src.len() < 4 {
-        return None;
+    match src {
+        [_, _, OLDER, _, ..] => read_under(src, OLDER, OLDER_LIMIT),
+        [_, _, _, _, ..] => read_under(src, NEWER, LIMIT),
+        _ => None,
     }
-    if src[2] == OLDER {
-        return read_under(src, OLDER, OLDER_LIMIT);
-    }
-    read_under(src, NEWER, LIMIT)
 }
 
 // The keys of a list of one version, with at most `most` keys.

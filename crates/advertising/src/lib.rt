@@ -112,8 +112,23 @@ impl Beacon {
         } else if count == 0 {
             write_structure(&[0x00, 0x00], out)
         } else {
-            keys_payload(count, self.filter, self.salt, prompt, out)
+            self.keys_payload(count, prompt, out)
         }
+    }
+
+    // With keys: their filter, copied in, and the salt.
+    fn keys_payload(self, count: usize, prompt: Prompt, out: &mut [u8]) -> Result<usize, Answer>
+        requires { count ≤ limit }
+        ensures value { result ≡ report_of (spec.structure (spec.keys_data (filter_size count) (take (filter_size count) self.filter) self.salt prompt)) out.old }
+        ensures out_after { out.new ≡ placed (spec.structure (spec.keys_data (filter_size count) (take (filter_size count) self.filter) self.salt prompt)) out.old }
+    {
+        let s = filter_size(count);
+        let mut sent = [0u8; FILTER_MAX + 5];
+        sent[1] = (s * 16) as u8 + prompt_type(prompt);
+        sent[2..s + 2].copy_from_slice(&self.filter[..s]);
+        sent[s + 2] = 0x21;
+        sent[s + 3..s + 5].copy_from_slice(&self.salt);
+        write_structure(&sent[..s + 5], out)
     }
 }
 
@@ -130,27 +145,6 @@ fn write_structure(sent: &[u8], out: &mut [u8]) -> Result<usize, Answer>
     out[..4].copy_from_slice(&[3 + sent.len() as u8, 0x16, 0x2C, 0xFE]);
     out[4..end].copy_from_slice(sent);
     Ok(end)
-}
-
-// With keys: their filter, copied in, and the salt.
-fn keys_payload(
-    count: usize,
-    filter: [u8; FILTER_MAX],
-    salt: [u8; 2],
-    prompt: Prompt,
-    out: &mut [u8],
-) -> Result<usize, Answer>
-    requires { count ≤ limit }
-    ensures value { result ≡ report_of (spec.structure (spec.keys_data (filter_size count) (take (filter_size count) filter) salt prompt)) out.old }
-    ensures out_after { out.new ≡ placed (spec.structure (spec.keys_data (filter_size count) (take (filter_size count) filter) salt prompt)) out.old }
-{
-    let s = filter_size(count);
-    let mut sent = [0u8; FILTER_MAX + 5];
-    sent[1] = (s * 16) as u8 + prompt_type(prompt);
-    sent[2..s + 2].copy_from_slice(&filter[..s]);
-    sent[s + 2] = 0x21;
-    sent[s + 3..s + 5].copy_from_slice(&salt);
-    write_structure(&sent[..s + 5], out)
 }
 
 fn prompt_type(prompt: Prompt) -> u8

@@ -27,7 +27,7 @@ pub fn is_utf8(text: &[u8]) -> bool
 }
 
 impl Expected {
-    // What is to come after `byte`; no character has a byte with `None`.
+    // What is to come after `byte`; None if no character has it here.
     fn after(self, byte: u8) -> Option<Expected>
         ensures { (l : List ℕ) → spec.continues (to_come self) (byte ∷ l) ≡ decides result (λ rest. spec.continues rest l) }
     {

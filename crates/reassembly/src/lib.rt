@@ -9,7 +9,7 @@ ghost use Rattle.reassembly.specs.Parts.{Open, Holds, Filling, Unended};
 use recording::reader;
 
 // The most bytes of a record after its length field, and with it.
-const LENGTH_MAX: usize = 1024;
+const LENGTH_MAX: usize = recording::BODY_MAX;
 
 pub const RECORD_MAX: usize = 2 + LENGTH_MAX;
 // The last byte of a record is never held.

@@ -4,10 +4,8 @@ ghost use Rattle.laws.specs.BigEndian as big;
 ghost use Rattle.recording.specs.Layout.{body_of};
 ghost use Rattle.recording.specs.Writing.{in_a_row, body_report, body_placed};
 
-use crate::{BODY_MAX, Kind};
+use crate::{BODY_MAX, Kind, VERSION};
 use basics::Answer;
-
-const VERSION: u8 = 0x01;
 
 // The record of a kind with these fields, one after the other, and how many bytes it has.
 pub fn write(kind: Kind, fields: &[&[u8]], out: &mut [u8]) -> Result<usize, Answer>

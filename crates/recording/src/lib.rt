@@ -9,7 +9,10 @@ ghost use Rattle.recording.specs.Layout as layout;
 ghost use Rattle.recording.specs.Reading as reading;
 
 // Most bytes of a record after its length field.
-const BODY_MAX: usize = 1024;
+pub const BODY_MAX: usize = 1024;
+
+// The version of records.
+const VERSION: u8 = 0x01;
 
 // The kinds of event, in the order of document 01; the name write of document 02 is last.
 #[derive(Clone, Copy, PartialEq, Eq)]
@@ -90,7 +93,7 @@ pub fn read_kind(record: &[u8]) -> Kind
     ensures { result ≡ reading.kind_read «record».now }
 {
     match record {
-        [0x01, kind, ..] if record.len() <= BODY_MAX => Kind::try_from(*kind).unwrap_or(
+        [VERSION, kind, ..] if record.len() <= BODY_MAX => Kind::try_from(*kind).unwrap_or(
             Kind::Marker,
         ),
         _ => Kind::Marker,

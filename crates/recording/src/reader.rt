@@ -5,7 +5,7 @@ ghost use Rattle.laws.specs.BigEndian.{number2};
 ghost use Rattle.recording.specs.Reading as reading;
 
 // What stands at a place of a recording.
-#[derive(Clone, Copy, PartialEq, Eq)]
+#[derive(Clone, Copy)]
 pub enum Next {
     // a whole record: the place of its first byte after the length field, and the place behind its last
     Record(usize, usize),

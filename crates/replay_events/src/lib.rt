@@ -219,7 +219,7 @@ fn key_based_write(device: &Device, record: &[u8]) -> Option<Outcome>
     ))
 }
 
-// The element's result. A rejected point has no secret: zeros stand for it.
+// The element's result, of a flag and a secret. Zeros stand for the secret of a rejected point; other bytes there are no event's.
 fn read_element(accepted: bool, secret: [u8; 32]) -> Option<Option<[u8; 32]>>
     ensures { MatchOption result
         (reading.is_element accepted secret ≡ false)

@@ -214,7 +214,7 @@ impl Salt {
     fn is_sized(self) -> bool
         ensures { result ≡ sized_salt self }
     {
-        self.length == 2 || self.length == 8
+        matches!(self.length, 2 | 8)
     }
 
     // The salt with zeros behind its length.
