@@ -1,6 +1,7 @@
 // What the recording is read from: the files that are named as arguments, joined in their order, or standard input.
 ghost use Rattle.replay.specs.Parts.{Ready};
-ghost use Rattle.std.specs.Prelude.{length, ◌≤◌};
+ghost use Rattle.std.specs.Prelude.{length, ◌≡◌, ◌≤◌};
+ghost use Rattle.std.proofs.Common.{Break};
 
 use crate::{input, output};
 use replay::parts::Stream;
@@ -71,17 +72,21 @@ fn one_file(
 {
     let mut path = io::buffer();
     let Ok(length) = rt.arg(i, &mut path) else {
-        output::report(rt, b"argument", Error::from_raw_os_error(ENAMETOOLONG));
-        return ControlFlow::Break(());
+        return failed(rt, b"argument", Error::from_raw_os_error(ENAMETOOLONG));
     };
     let name = &path[..length];
     match named_file(rt, stream, name, input, out) {
         Ok(()) => ControlFlow::Continue(()),
-        Err(error) => {
-            output::report(rt, name, error);
-            ControlFlow::Break(())
-        }
+        Err(error) => failed(rt, name, error),
     }
+}
+
+// A file can't be opened or read: a message, and the recording ends there.
+fn failed(rt: &HostRuntime, name: &[u8], error: Error) -> ControlFlow<()>
+    ensures { result ≡ Break tt }
+{
+    output::report(rt, name, error);
+    ControlFlow::Break(())
 }
 
 fn named_file(

@@ -1,10 +1,13 @@
 // A recording that is read through one buffer: what a read gives is a part, and is replayed at once.
-ghost use Rattle.std.specs.Prelude.{◌≤◌, length};
+ghost use Rattle.std.specs.Prelude.{◌≡◌, ◌≤◌, length, take, Ok, IfOk, MatchResult};
+ghost use Rattle.std.proofs.Common.{Break};
 ghost use Rattle.replay.specs.Parts.{Ready};
+ghost use Rattle.replay.specs.Promises.{fed_part};
 
 use crate::part;
 use replay::parts::Stream;
 use std::io::{Error, ErrorKind, Read};
+use std::ops::ControlFlow;
 
 // Reads to the end of a file. A proved loop has to end, and nothing says that a file does: the loop counts its turns, up to a number
 // that no run comes to. A read that a signal interrupted is no end.
@@ -19,12 +22,36 @@ pub fn read_to_end<R: Read>(
     ensures { Ready stream.new }
 {
     for _ in 0..u64::MAX {
-        match source.read(input) {
-            Ok(0) => break,
-            Ok(count) => *stream = part::take_in(rt, *stream, &input[..count], out),
-            Err(error) if error.kind() == ErrorKind::Interrupted => {}
-            Err(error) => return Err(error),
+        let read = source.read(input);
+        if replay_read(rt, stream, read, input, out)?.is_break() {
+            break;
         }
     }
     Ok(())
+}
+
+// What a read gave, replayed. It breaks off at the end; an error leaves the stream as it was.
+fn replay_read(
+    rt: &HostRuntime,
+    stream: &mut Stream,
+    read: Result<usize, Error>,
+    input: &[u8],
+    out: &mut [u8],
+) -> Result<ControlFlow<()>, Error>
+    requires ready { Ready stream.old × (83 ≤ length out.old) }
+    requires within { IfOk read (λ count. count ≤ length input.now) }
+    ensures stream_after { MatchResult read (λ count. stream.new ≡ (fed_part stream.old (take count input.now)).next) (λ error. stream.new ≡ stream.old) }
+    ensures end_breaks { read ≡ Ok 0 → result ≡ Ok (Break tt) }
+    ensures nothing_else_breaks { result ≡ Ok (Break tt) → read ≡ Ok 0 }
+    ensures ready { Ready stream.new }
+{
+    match read {
+        Ok(0) => Ok(ControlFlow::Break(())),
+        Ok(count) => {
+            *stream = part::take_in(rt, *stream, &input[..count], out);
+            Ok(ControlFlow::Continue(()))
+        }
+        Err(error) if error.kind() == ErrorKind::Interrupted => Ok(ControlFlow::Continue(())),
+        Err(error) => Err(error),
+    }
 }

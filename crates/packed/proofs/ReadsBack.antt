@@ -16,7 +16,7 @@ use Rattle.names.specs.Name as names
 use Rattle.names.specs.declared.Name.{Name}
 use Rattle.packed.proofs.Links.{links_back, known_back, session_canonical}
 use Rattle.packed.proofs.StoredKeys.{list_back, list_valid}
-use Rattle.packed.specs.Promises.{ReadsBack, AnyBytes}
+use Rattle.packed.specs.Promises.{ReadsBack, AnyBytes, RejectedSecretUnread}
 use Rattle.packed.specs.Packed.{no_session, session_of, stages_known, list_of, flag, packed, guard_of, wait_of, guard_known, flags_known, numbers_known, with_parts, unpacked}
 use Rattle.packed.specs.declared.FpDevice.{FpDevice}
 use Rattle.provider.proofs.Theorems.ValidParts.{off_valid}
@@ -105,3 +105,6 @@ any_bytes f = go (unpacked f) refl
     go : (r : Option Device) → r ≡ unpacked f → Valid (unwrap_or r off)
     go (Some d) e = any_device f d e
     go None e = off_valid
+
+pub rejected_secret_unread : RejectedSecretUnread
+rejected_secret_unread secret other = refl

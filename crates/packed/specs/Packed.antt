@@ -185,10 +185,14 @@ packed_reply r =
 abbrev pub packed_outcome : Outcome → FpOutcome
 packed_outcome o = record { next = packed o.next; reply = packed_reply o.reply; reserved = replicate 3 0 }
 
+-- a length and an answer
+abbrev pub report_numbers : ℕ → Answer → FpReport
+report_numbers n a = record { length = n; answer = answer_number a; reserved = replicate 7 0 }
+
 -- the length is handed out with 0
 abbrev pub packed_report : Result ℕ Answer → FpReport
-packed_report (Ok n) = record { length = n; answer = answer_number Taken; reserved = replicate 7 0 }
-packed_report (Err a) = record { length = 0; answer = answer_number a; reserved = replicate 7 0 }
+packed_report (Ok n) = report_numbers n Taken
+packed_report (Err a) = report_numbers 0 a
 
 -- what the secure element made of a point; 0 is a rejected one, which has no secret
 abbrev pub element_of : FpElement → Option (List ℕ)

@@ -56,10 +56,16 @@ pub fn pack_outcome(outcome: Outcome) -> FpOutcome
 pub fn pack_report(report: Result<usize, Answer>) -> FpReport
     ensures { result ≡ spec.packed_report report }
 {
-    let (length, answer) = match report {
-        Ok(length) => (length, Answer::Taken),
-        Err(answer) => (0, answer),
-    };
+    match report {
+        Ok(length) => report_numbers(length, Answer::Taken),
+        Err(answer) => report_numbers(0, answer),
+    }
+}
+
+// Any answer, with any length.
+pub fn report_numbers(length: usize, answer: Answer) -> FpReport
+    ensures { result ≡ spec.report_numbers length answer }
+{
     FpReport {
         length: length as u64,
         answer: answer.number(),

@@ -60,9 +60,20 @@ module _ (u : Unfinished) where
         not-long l j k =
             ltb-false 1024 (size_in l) (not-true (ltb 1024 (size_in l)) (ap (λ (b : Bool). not (b and ltb 1024 (size_in l))) (sym (le-leb 2 (length l) j)) ∙ k))
 
+    pub again_nothing : u.count ≡ 0 → Some (skipping u.skip) ≡ read_again u
+    again_nothing h = again_held (omega (arith, h)) (rw h refl) (rw (e, h) refl)
+
     pub again_unheld : u.count ≤ 1025 → is_held bs ≡ false → None ≡ read_again u
     unfolding read_again
     again_unheld h k = rw (eq-eqb u.skip 0 e, le-leb u.count 1025 h, k)
+
+-- no bytes are held: what is to be skipped is, if anything
+pub again_none : (u : Unfinished) → u.count ≡ 0 → Some (skipping u.skip) ≡ read_again u
+again_none u h = by-skip (eqb u.skip 0) refl
+  where
+    by-skip : (t : Bool) → eqb u.skip 0 ≡ t → Some (skipping u.skip) ≡ read_again u
+    by-skip true z = again_nothing u (eqb-true u.skip 0 z) h
+    by-skip false z = again_skips u (eqb-false u.skip 0 z) h
 
 -- which bytes are held
 pub held_short : (l : List ℕ) → length l < 2 → is_held l ≡ true

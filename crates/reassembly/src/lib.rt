@@ -98,10 +98,10 @@ impl Unfinished {
     pub fn read_again(self) -> Option<Unfinished>
         ensures { result ≡ spec.read_again self }
     {
-        if self.skip == 0 {
-            self.bytes_again()
-        } else if self.count == 0 {
+        if self.count == 0 {
             Some(skipping(self.skip))
+        } else if self.skip == 0 {
+            self.bytes_again()
         } else {
             None
         }
@@ -116,15 +116,14 @@ impl Unfinished {
         if HELD_MAX < count {
             return None;
         }
-        let held = rest(&self.bytes[..count], 0);
         if count < 2 {
-            return Some(held);
+            return Some(rest(&self.bytes[..count], 0));
         }
         let size = reader::size(self.bytes[0], self.bytes[1]);
         if LENGTH_MAX < size || size <= count - 2 {
             return None;
         }
-        Some(held)
+        Some(rest(&self.bytes[..count], 0))
     }
 
     // The second byte of the length field comes.

@@ -3,6 +3,7 @@
 use Rattle.std.specs.Prelude.{◌≡◌, ℕ, zero, suc, ◌<◌, ◌≤◌, List, [], ◌∷◌, ◌++◌, map, length, take}
 use Rattle.std.specs.Result.{IsOk, result_unwrap_or}
 use Rattle.laws.specs.Lists.{All}
+use Rattle.basics.specs.Answers.{answer_number}
 use Rattle.basics.specs.declared.Answer.TheVariants.{Taken}
 use Rattle.provider.specs.Demands.Validity.{Valid}
 use Rattle.provider.specs.Rules.Event.{Event, PowerOn, step, next, answer_of}
@@ -28,8 +29,8 @@ LineForEach = (recording : List ℕ) → length (lines recording) ≡ length (ev
 abbrev pub ShowsValid : Type 0
 ShowsValid = (r : Replay) (e : Event) → Valid r.device → Valid (shown r e).next.device
 
--- an event gives what it gives without the bytes of its lent outputs, and without the secret of a rejected point: a record does
--- not keep them
+-- an event gives what it gives without the bytes of its lent outputs: a record does not keep them. Of a rejected point an event has no
+-- secret, whatever bytes C hands in as one (`RejectedSecretUnread` of `packed`)
 abbrev pub KeptGives : Type 0
 KeptGives = (d : Device) (e : Event) → (step d (kept e)).gives ≡ (step d e).gives
 
@@ -60,7 +61,7 @@ lines_given n d (c ∷ cs) =
     record {
       number = one_more n;
       kind = kind_of c.event;
-      answer = answer_of d c.event;
+      answer = answer_number (answer_of d c.event);
       size = (next d c.event).keys.count;
     }
     ∷ lines_given (one_more n) (next d c.event) cs

@@ -2,9 +2,8 @@
 -- Assumes nothing.
 use Rattle.std.specs.Prelude.{ℕ, ◌+◌, ◌%◌, ◌^◌, Bool, true, false, List, [], ◌∷◌, nat_eq, if◌then◌else◌}
 use Rattle.laws.specs.Choice.{◌and◌, ◌or◌}
-use Rattle.basics.specs.Answers.{is_taken}
+use Rattle.basics.specs.Answers.{answer_number, is_taken}
 use Rattle.basics.specs.declared.Answer.{Answer}
-use Rattle.basics.specs.declared.Answer.TheVariants.{ListMalformed}
 use Rattle.provider.specs.Rules.Control.{off}
 use Rattle.provider.specs.Rules.Event.{Event}
 use Rattle.provider.specs.declared.Device.{Device}
@@ -36,15 +35,15 @@ unfoldable pub answered : ℕ → Kind → Outcome → Shown
 answered n k o =
     record {
       next = record { started = true; number = n; device = o.next };
-      line = record { number = n; kind = k; answer = o.reply.answer; size = o.next.keys.count };
+      line = record { number = n; kind = k; answer = answer_number o.reply.answer; size = o.next.keys.count };
     }
 
--- "Before the first power-on taken, every event, marker too, shows 14 and size 0"; 14 is the number of a list that does not read
+-- "Before the first power-on taken, every event, marker too, shows 14 and size 0"
 unfoldable pub refused : ℕ → Kind → Device → Shown
 refused n k d =
     record {
       next = record { started = false; number = n; device = d };
-      line = record { number = n; kind = k; answer = ListMalformed; size = 0 };
+      line = record { number = n; kind = k; answer = 14; size = 0 };
     }
 
 unfoldable pub shown_of : Replay → Played → Shown

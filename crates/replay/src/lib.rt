@@ -29,7 +29,7 @@ pub struct Replay {
 pub struct Line {
     pub number: u64,
     pub kind: Kind,
-    pub answer: Answer,
+    pub answer: u8,
     // how many keys the list holds
     pub size: usize,
 }
@@ -103,13 +103,13 @@ fn answered(number: u64, kind: Kind, outcome: Outcome) -> Shown
         line: Line {
             number,
             kind,
-            answer: outcome.reply.answer,
+            answer: outcome.reply.answer.number(),
             size: outcome.next.keys.count,
         },
     }
 }
 
-// Before the first power-on that is taken: what the event came to is not taken over, and the answer is that there is no list.
+// Before the first power-on that is taken: what the event came to is not taken over.
 #[tactic(auto, unfolding(crate::specs::Replay::refused))]
 fn refused(number: u64, kind: Kind, device: Device) -> Shown
     ensures { result ≡ spec.refused number kind device }
@@ -123,7 +123,7 @@ fn refused(number: u64, kind: Kind, device: Device) -> Shown
         line: Line {
             number,
             kind,
-            answer: Answer::ListMalformed,
+            answer: 14,
             size: 0,
         },
     }

@@ -2,7 +2,6 @@
 -- Assumes nothing.
 use Rattle.std.specs.Prelude.{List, [], ◌∷◌, ◌++◌, ℕ, zero, suc, ◌+◌, ◌/◌, ◌%◌, ltb, if◌then◌else◌}
 use Rattle.replay_text.specs.Ascii.{ascii}
-use Rattle.basics.specs.Answers.{answer_number}
 use Rattle.recording.specs.declared.Kind.{Kind}
 use Rattle.recording.specs.declared.Kind.TheVariants as kind
 use Rattle.replay.specs.Replay.{lines}
@@ -38,7 +37,7 @@ space = ascii " "
 
 unfoldable pub text : Line → List ℕ
 text l =
-    decimal l.number ++ space ++ kind_name l.kind ++ space ++ decimal (answer_number l.answer) ++ space ++ decimal l.size ++ ascii "\n"
+    decimal l.number ++ space ++ kind_name l.kind ++ space ++ decimal l.answer ++ space ++ decimal l.size ++ ascii "\n"
 
 -- "one line for each event": their texts, one behind the other
 unfoldable pub texts : List Line → List ℕ

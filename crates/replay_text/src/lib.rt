@@ -20,7 +20,7 @@ pub fn put_line(out: &mut [u8], at: usize, line: Line) -> usize
     let after_number = put_number(out, at, line.number);
     let kind_at = put(out, after_number, b" ");
     let after_kind = put(out, kind_at, kind_name(line.kind));
-    let after_answer = put_behind_space(out, after_kind, u64::from(line.answer.number()));
+    let after_answer = put_behind_space(out, after_kind, u64::from(line.answer));
     let after_size = put_behind_space(out, after_answer, line.size as u64);
     put(out, after_size, b"\n")
 }

@@ -2,7 +2,6 @@
 -- Assumes nothing.
 use Rattle.std.specs.Prelude.{Bool, Option, Some, None, is_some, unwrap_or, option_and_then, List, ℕ, eqb, leb, replicate, if◌then◌else◌}
 use Rattle.std.specs.Option.{option_map_or}
-use Rattle.basics.specs.Answers.{answer_number}
 use Rattle.packed.specs.Packed.{flag, packed, unpacked}
 use Rattle.reassembly.specs.Parts.{behind_part, read_again}
 use Rattle.provider.specs.declared.Device.{Device}
@@ -61,7 +60,7 @@ no_line = record { number = 0; keys = 0; kind = 0; answer = 0; reserved = replic
 -- "its number, kind, answer and list size"
 abbrev pub packed_line : Line → FpLine
 packed_line l =
-    record { number = l.number; keys = l.size; kind = kind_byte l.kind; answer = answer_number l.answer; reserved = replicate 6 0 }
+    record { number = l.number; keys = l.size; kind = kind_byte l.kind; answer = l.answer; reserved = replicate 6 0 }
 
 abbrev pub line_numbers : Option Line → FpLine
 line_numbers l = option_map_or packed_line l no_line

@@ -83,7 +83,7 @@ fn one_line(from: Line) -> FpLine
         number: from.number,
         keys: from.size as u64,
         kind: from.kind.byte(),
-        answer: from.answer.number(),
+        answer: from.answer,
         reserved: [0; 6],
     }
 }

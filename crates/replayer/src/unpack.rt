@@ -9,17 +9,21 @@ use reassembly::Unfinished;
 use replay::Replay;
 use replay::parts::Stream;
 
-// The stream that the bytes are; none where they are no replay.
+// The stream that the bytes are; none where they are no replay. By `?` the device and what is held would be copied once more.
 #[tactic(auto, unfolding(crate::specs::Calls::unpacked_stream))]
 pub fn unpack(from: FpReplay) -> Option<Stream>
     ensures value { result ≡ spec.unpacked_stream from }
     ensures ready { IfSome result Ready }
 {
-    let device = unpack::unpack(from.device)?;
-    let unfinished = held(from).read_again()?;
+    let Some(device) = unpack::unpack(from.device) else {
+        return None;
+    };
     if 1 < from.started {
         return None;
     }
+    let Some(unfinished) = held(from).read_again() else {
+        return None;
+    };
     Some(Stream {
         replay: Replay {
             started: from.started == 1,
@@ -34,15 +38,11 @@ pub fn unpack(from: FpReplay) -> Option<Stream>
 fn held(from: FpReplay) -> Unfinished
     ensures { result ≡ spec.held_in from }
 {
-    let FpReplay {
-        bytes,
-        held,
-        skip,
-        ..
-    } = from;
+    // the prover asks for a variable of a field that is an array
+    let bytes = from.bytes;
     Unfinished {
         bytes,
-        count: held as usize,
-        skip: skip as usize,
+        count: from.held as usize,
+        skip: from.skip as usize,
     }
 }

@@ -1,17 +1,19 @@
 // Packets of names: the one that the Fast Pair specification publishes, names whose lengths lie around the ends of blocks, and
 // packets with one bit changed. The key and the nonce are the specification's.
-ghost use Rattle.std.specs.Prelude.{IfSome};
-ghost use Rattle.names.specs.Name.{Valid};
+ghost use Rattle.std.specs.Prelude.{◌≡◌, ◌≤◌, length, take, IfSome};
+ghost use Rattle.names.specs.Name.{Valid, reading};
 
 use crate::hex::line;
 use names::Name;
 
 const KEY: [u8; 16] = *b"\x01\x23\x45\x67\x89\xab\xcd\xef\x01\x23\x45\x67\x89\xab\xcd\xef";
 
+const PUBLISHED: &[u8] = b"Someone's Google Headphone";
+
 const NONCE: [u8; 8] = *b"\x00\x01\x02\x03\x04\x05\x06\x07";
 
 pub fn run(rt: &HostRuntime) {
-    sealed(rt, "Fast Pair packet", b"Someone's Google Headphone");
+    sealed(rt, "Fast Pair packet", PUBLISHED, 26);
     let letters = b"abcdefghijklmnopqrstuvwxyzabcdefghijklmnopqrstuvwxyzabcdefghijkl";
     for (label, length) in [
         ("packet of 0 bytes", 0),
@@ -22,9 +24,7 @@ pub fn run(rt: &HostRuntime) {
         ("packet of 63 bytes", 63),
         ("packet of 64 bytes", 64),
     ] {
-        if let Some(text) = letters.get(..length) {
-            sealed(rt, label, text);
-        }
+        sealed(rt, label, letters, length);
     }
     for (label, at) in [
         ("Fast Pair packet, first byte of the tag changed", 0),
@@ -36,16 +36,21 @@ pub fn run(rt: &HostRuntime) {
     }
 }
 
-// A text as a name, if it is one.
-fn named(text: &[u8]) -> Option<Name>
-    ensures { IfSome result Valid }
+// The name of the first n bytes of a text, if they are one.
+fn named(text: &[u8], n: usize) -> Option<Name>
+    ensures value { n ≤ length text.now → result ≡ reading (take n text.now) }
+    ensures valid { IfSome result Valid }
 {
-    names::read(text)
+    if n <= text.len() {
+        names::read(&text[..n])
+    } else {
+        None
+    }
 }
 
 // Two lines: an output of 80 bytes, which held EE before, and the bytes of the name that its packet reads as.
-fn sealed(rt: &HostRuntime, label: &str, text: &[u8]) {
-    let Some(name) = named(text) else {
+fn sealed(rt: &HostRuntime, label: &str, text: &[u8], n: usize) {
+    let Some(name) = named(text, n) else {
         return;
     };
     let mut out = [0xEE; 80];
@@ -59,7 +64,7 @@ fn sealed(rt: &HostRuntime, label: &str, text: &[u8]) {
 
 // One line: whether the published packet is still read with one bit of a byte changed.
 fn changed(rt: &HostRuntime, label: &str, at: usize) {
-    let Some(name) = named(b"Someone's Google Headphone") else {
+    let Some(name) = named(PUBLISHED, 26) else {
         return;
     };
     let mut out = [0; 80];

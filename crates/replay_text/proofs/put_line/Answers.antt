@@ -1,6 +1,5 @@
 -- The parts of the text are put one behind the other; their most bytes add up to 83.
 use mathlib.Core.List.{List, ◌++◌}
-use mathlib.Core.Path.{◌∙◌}
 use Prim.Native.Nat.{ℕ, ◌≤◌}
 use native.Mathlib.Omega.{arith}
 use lib.ListN.{length}
@@ -25,7 +24,7 @@ returns c =
     let to_end = put_more room to-size (ascii "\n") c.put.ensures.value c.put.ensures.out_after in
     let front = decimal l.number ++ space ++ kind in
     let whole = rw (joined front space (decimal answer) (decimal l.size) (ascii "\n")) at to_end in
-    rw (← c.kind_name.ensures.value, ← (c.from.ensures ∙ c.number.ensures)) record {
+    rw (← c.kind_name.ensures.value, ← c.from.ensures) record {
       value = (whole.end_is, omega (arith, c.put_number-after_number.ensures.value.1, c.put-kind_at.ensures.value, c.put-after_kind.ensures.value, c.kind_name.ensures.short, c.put_behind_space-after_answer.ensures.value.1, c.put_behind_space-after_size.ensures.value.1, c.put.ensures.value));
       out_after = whole.left_is;
     }

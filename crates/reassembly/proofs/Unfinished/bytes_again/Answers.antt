@@ -13,7 +13,7 @@ returns-then-count-gt-HELD_MAX c =
 pub returns-then-count-lt2 : goal.returns-then-count-lt2
 returns-then-count-lt2 c =
     let h : length c.args.self.bytes ≡ 1026 = search rules in
-    again_byte c.args.self c.requires c.if-count-gt-HELD_MAX.false h c.if-count-lt2.true c.rest-held.ensures
+    again_byte c.args.self c.requires c.if-count-gt-HELD_MAX.false h c.if-count-lt2.true c.rest.ensures
 
 pub returns-then-size-gt-LENGTH_MAX : goal.returns-then-size-gt-LENGTH_MAX
 returns-then-size-gt-LENGTH_MAX c =
@@ -26,4 +26,4 @@ returns-then-size-gt-LENGTH_MAX c =
 pub returns : goal.returns
 returns c =
     let h : length c.args.self.bytes ≡ 1026 = search rules in
-    again_cut c.args.self c.requires c.if-count-gt-HELD_MAX.false h c.if-count-lt2.false c.size-size.ensures.0 c.if-size-gt-LENGTH_MAX.false c.if-size-count.false c.rest-held.ensures
+    again_cut c.args.self c.requires c.if-count-gt-HELD_MAX.false h c.if-count-lt2.false c.size-size.ensures.0 c.if-size-gt-LENGTH_MAX.false c.if-size-count.false c.rest-2.ensures

@@ -10,5 +10,5 @@ read_valid : (text : List ℕ) (r : Option Name) → r ≡ reading text → IfSo
 read_valid text None e = tt
 read_valid text (Some n) e = reading_valid text (sym e)
 
-pub returns : goal.returns
-returns c = read_valid c.args.text.now c.read.result c.read.ensures
+pub returns-then-n-text-clause-valid : goal.returns-then-n-text-clause-valid
+returns-then-n-text-clause-valid c = read_valid _ c.read.result c.read.ensures
