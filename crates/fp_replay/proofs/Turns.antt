@@ -1,12 +1,12 @@
 -- A step of the loop over a part: what is to come from there on stays the same, up to the end of the part.
 -- Assumes nothing.
-use mathlib.Core.List.{List}
+use mathlib.Core.List.{List, []}
 use mathlib.Core.Path.{◌≡◌, refl, sym, ap, subst, ◌∙◌}
 use Prim.Native.Nat.{ℕ, ◌-◌, ◌<◌, ◌≤◌}
 use native.Mathlib.Omega.{arith}
 use lib.ListN.{length}
 use lib.Seq.{length-paste}
-use Rattle.replay.proofs.Theorems.Parts.{to_come, line_and, come_all, come_step, come_end, step_reads_on, stays_ready, part_ready, start_ready}
+use Rattle.replay.proofs.Theorems.Parts.{empty_part_keeps, to_come, line_and, come_all, come_step, come_end, step_reads_on, stays_ready, part_ready, start_ready}
 use Rattle.replay.specs.Parts.{start_stream, Ready, fed, ended}
 use Rattle.replay.specs.Promises.{Lines, fed_part, line_of}
 use Rattle.replay.specs.declared.Line.{Line}
@@ -100,6 +100,14 @@ drained_stream s₀ o bs e = ap (λ (x : State). x.stream) e
 
 pub fed_ready : (s₀ : Stream) (bs : List ℕ) {s : Stream} → Ready s₀ → s ≡ (fed_part s₀ bs).next → Ready s
 fed_ready s₀ bs r e = subst Ready (sym e) (part_ready s₀ bs r)
+
+-- a read that gave nothing keeps the stream and the output buffer
+pub nothing_fed : (s : Stream) (out : List ℕ) {part : List ℕ} → Ready s → part ≡ []
+    → (s ≡ (fed_part s part).next) × (out ≡ (drained s (unused out) part).output.bytes)
+unfolding drained printed_all
+nothing_fed s out r e =
+    let kept : fed_part s [] ≡ record { lines = []; next = s } = empty_part_keeps s r in
+    rw e (sym (ap (λ (l : Lines). l.next) kept), sym (ap (λ (l : Lines). (printed_all (unused out) l.lines).bytes) kept))
 
 -- nothing was read yet
 pub first_ready : {s : Stream} → s ≡ start_stream → Ready s

@@ -1,6 +1,11 @@
 -- What the program makes of the parts that it reads: the stream behind them, and the lines in its output buffer.
 -- Assumes nothing.
-use Rattle.std.specs.Prelude.{Option, Some, None, List, [], ◌∷◌, ℕ, ◌+◌, leb, length, if◌then◌else◌}
+use Rattle.std.specs.Prelude.{Bool, true, false, Option, Some, None, Result, Ok, Err, List, [], ◌∷◌, ℕ, ◌+◌, eqb, leb, length, take, if◌then◌else◌}
+use Rattle.std.proofs.Common.{ControlFlow, Break, Continue}
+use Rattle.std.specs.IoError.{error_kind}
+use Rattle.std.specs.declared.io.Error.{Error}
+use Rattle.std.specs.declared.io.ErrorKind.{ErrorKind}
+use Rattle.std.specs.declared.io.ErrorKind.TheVariants.{Interrupted}
 use Rattle.std.proofs.Math.Seq.{paste}
 use Rattle.replay.specs.Parts.{ended}
 use Rattle.replay.specs.Promises.{fed_part, line_of}
@@ -34,6 +39,22 @@ printed o l =
 unfoldable pub printed_all : Output → List Line → Output
 printed_all o [] = o
 printed_all o (l ∷ ls) = printed_all (printed o l) ls
+
+-- ---- a read: how many bytes it left in the input buffer, 0 at the end, or an error
+
+abbrev pub is_interrupted : ErrorKind → Bool
+is_interrupted Interrupted = true
+is_interrupted k = false
+
+-- the loop over the reads breaks off at the end. A read that a signal interrupted is no end; any other error is handed on
+abbrev pub after_read : Result ℕ Error → Result (ControlFlow Unit Unit) Error
+after_read (Ok n) = Ok (if eqb n 0 then Break tt else Continue tt)
+after_read (Err e) = if is_interrupted (error_kind e) then Ok (Continue tt) else Err e
+
+-- the part that it gave; an error gives none
+abbrev pub part_read : Result ℕ Error → List ℕ → List ℕ
+part_read (Ok n) input = take n input
+part_read (Err e) input = []
 
 -- ---- a part of a recording
 

@@ -1,8 +1,8 @@
 // A recording that is read through one buffer: what a read gives is a part, and is replayed at once.
-ghost use Rattle.std.specs.Prelude.{◌≡◌, ◌≤◌, length, take, Ok, IfOk, MatchResult};
-ghost use Rattle.std.proofs.Common.{Break};
+ghost use Rattle.std.specs.Prelude.{◌≡◌, ◌≤◌, length, IfOk};
 ghost use Rattle.replay.specs.Parts.{Ready};
 ghost use Rattle.replay.specs.Promises.{fed_part};
+ghost use Rattle.fp_replay.specs.Reading as spec;
 
 use crate::part;
 use replay::parts::Stream;
@@ -40,9 +40,9 @@ fn replay_read(
 ) -> Result<ControlFlow<()>, Error>
     requires ready { Ready stream.old × (83 ≤ length out.old) }
     requires within { IfOk read (λ count. count ≤ length input.now) }
-    ensures stream_after { MatchResult read (λ count. stream.new ≡ (fed_part stream.old (take count input.now)).next) (λ error. stream.new ≡ stream.old) }
-    ensures end_breaks { read ≡ Ok 0 → result ≡ Ok (Break tt) }
-    ensures nothing_else_breaks { result ≡ Ok (Break tt) → read ≡ Ok 0 }
+    ensures value { result ≡ spec.after_read read }
+    ensures fed { (stream.new ≡ (fed_part stream.old (spec.part_read read input.now)).next)
+        × (out.new ≡ (spec.drained stream.old (spec.unused out.old) (spec.part_read read input.now)).output.bytes) }
     ensures ready { Ready stream.new }
 {
     match read {

@@ -1,6 +1,6 @@
 // Packets of names: the one that the Fast Pair specification publishes, names whose lengths lie around the ends of blocks, and
 // packets with one bit changed. The key and the nonce are the specification's.
-ghost use Rattle.std.specs.Prelude.{◌≡◌, ◌≤◌, length, take, IfSome};
+ghost use Rattle.std.specs.Prelude.{◌≡◌, leb, length, take, None, IfSome, if◌then◌else◌};
 ghost use Rattle.names.specs.Name.{Valid, reading};
 
 use crate::hex::line;
@@ -8,9 +8,9 @@ use names::Name;
 
 const KEY: [u8; 16] = *b"\x01\x23\x45\x67\x89\xab\xcd\xef\x01\x23\x45\x67\x89\xab\xcd\xef";
 
-const PUBLISHED: &[u8] = b"Someone's Google Headphone";
-
 const NONCE: [u8; 8] = *b"\x00\x01\x02\x03\x04\x05\x06\x07";
+
+const PUBLISHED: &[u8] = b"Someone's Google Headphone";
 
 pub fn run(rt: &HostRuntime) {
     sealed(rt, "Fast Pair packet", PUBLISHED, 26);
@@ -38,7 +38,7 @@ pub fn run(rt: &HostRuntime) {
 
 // The name of the first n bytes of a text, if they are one.
 fn named(text: &[u8], n: usize) -> Option<Name>
-    ensures value { n ≤ length text.now → result ≡ reading (take n text.now) }
+    ensures value { result ≡ (if leb n (length text.now) then reading (take n text.now) else None) }
     ensures valid { IfSome result Valid }
 {
     if n <= text.len() {

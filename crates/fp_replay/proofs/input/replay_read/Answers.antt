@@ -1,18 +1,26 @@
--- At the end nothing came, and an empty part keeps the stream.
-use mathlib.Core.List.{List}
-use mathlib.Core.Path.{◌≡◌, ap, sym, subst, ◌∙◌}
-use Prim.Native.Nat.{ℕ}
+-- At the end, after an error and after an interruption nothing was read, and an empty part keeps the stream and the output.
+use mathlib.Core.List.{[]}
+use mathlib.Core.Path.{◌≡◌, refl, ap, sym, ◌∙◌}
 use lib.ListN.{take}
-use Rattle.replay.proofs.Theorems.Parts.{empty_part_keeps}
-use Rattle.replay.specs.Parts.{Ready}
-use Rattle.replay.specs.Promises.{Lines, fed_part}
-use Rattle.replay.specs.declared.parts.Stream.{Stream}
+use Rattle.fp_replay.proofs.Turns.{nothing_fed}
 use Rattle.fp_replay.proofs.input.replay_read.Goals as goal
+use Rattle.fp_replay.specs.Reading.{part_read}
 
-nothing_read : (s : Stream) (bytes : List ℕ) {count : ℕ} → Ready s → count ≡ 0 → s ≡ (fed_part s (take count bytes)).next
-nothing_read s bytes r e =
-    subst (λ n. s ≡ (fed_part s (take n bytes)).next) (sym e) (sym (ap (λ (l : Lines). l.next) (empty_part_keeps s r)))
+pub returns-in-Ok-eq0-clause-fed : goal.returns-in-Ok-eq0-clause-fed
+returns-in-Ok-eq0-clause-fed c =
+    let a = c.args in
+    let none : part_read a.read a.input.now ≡ [] =
+    rw c.in-Ok-eq0.is (ap (λ n. take n a.input.now) (sym c.in-Ok-eq0.field-0-is ∙ c.in-Ok-eq0.field-0-test)) in
+    nothing_fed a.stream.now a.out.now c.requires.ready.0 none
 
-pub returns-in-Ok-eq0-clause-stream_after : goal.returns-in-Ok-eq0-clause-stream_after
-returns-in-Ok-eq0-clause-stream_after c =
-    rw c.in-Ok-eq0.is (nothing_read c.args.stream.now c.args.input.now c.requires.ready.0 (sym c.in-Ok-eq0.field-0-is ∙ c.in-Ok-eq0.field-0-test))
+pub returns-in-Err-clause-fed : goal.returns-in-Err-clause-fed
+returns-in-Err-clause-fed c =
+    let a = c.args in
+    let none : part_read a.read a.input.now ≡ [] = rw c.in-Err.is refl in
+    nothing_fed a.stream.now a.out.now c.requires.ready.0 none
+
+pub returns-in-Err-2-clause-fed : goal.returns-in-Err-2-clause-fed
+returns-in-Err-2-clause-fed c =
+    let a = c.args in
+    let none : part_read a.read a.input.now ≡ [] = rw c.in-Err-2.is refl in
+    nothing_fed a.stream.now a.out.now c.requires.ready.0 none
